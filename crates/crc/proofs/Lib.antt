@@ -1,0 +1,3 @@
+pub mod Linear
+pub mod WholeBytes
+pub mod Burst
