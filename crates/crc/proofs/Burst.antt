@@ -8,12 +8,12 @@ use native.Mathlib.Nat.{mul-assoc, zero-mod, mul-add-mod-self-right}
 use native.Mathlib.Omega.{arith}
 use lib.Bits.{bitXor, xor-self}
 use lib.Dec.{eqb, leb}
-use lib.ListN.{length, getD, take}
+use lib.ListN.{length, getD, take, length-append}
 use Rattle.std.specs.shelf.Lists.{All}
 use Rattle.std.proofs.shelf.Bits.{pow-add, mod-pow-add}
 use Rattle.std.proofs.shelf.Elements.{all-getD}
-use Rattle.std.proofs.shelf.Lists.{take-append-drop, drop-more, drop-all}
-use Rattle.std.proofs.shelf.Tests.{and-parts, leb-true, eqb-true, cases-bool}
+use Rattle.std.proofs.shelf.Lists.{take-append-drop, take-at, getD-at, getD-append-add, drop-more, drop-all}
+use Rattle.std.proofs.shelf.Tests.{and-parts, and-from, leb-true, le-leb, eqb-true, eq-eqb, cases-bool}
 use Rattle.crc.specs.Crc.{shift, feed, bitsOf, bits, crc, sealed, Bytes, Burst, Burst-detected}
 use Rattle.crc.proofs.Linear.{same-from-xor, xor-same, shift-fits, difference-back}
 use Rattle.crc.proofs.WholeBytes.{own-byte, byte-into-itself}
@@ -38,6 +38,9 @@ feed-append (w ∷ ws) vs r = feed-append ws vs (shift r w)
 feed-fits : (ws : List ℕ) (r : ℕ) → Binary ws → r < 2 ^ 16 → feed ws r < 2 ^ 16
 feed-fits [] r b h = h
 feed-fits (w ∷ ws) r b h = feed-fits ws (shift r w) (b .1) (shift-fits r w h (b .0))
+
+pub crc-fits : (text : List ℕ) → crc text < 2 ^ 16
+crc-fits text = feed-fits (bits text) 0xffff (binary-bits text) (omega arith)
 
 -- the same bits keep different registers apart
 same-registers : (ws : List ℕ) (r s : ℕ) → Binary ws → r < 2 ^ 16 → s < 2 ^ 16 → feed ws r ≡ feed ws s → r ≡ s
@@ -116,7 +119,7 @@ feed-bits : (xs ys : List ℕ) (r : ℕ) → feed (bits (xs ++ ys)) r ≡ feed (
 feed-bits [] ys r = refl
 feed-bits (x ∷ xs) ys r = feed-bits xs ys (feed (bitsOf x) r)
 
-last-two : (text : List ℕ) → 2 ≤ length text
+pub last-two : (text : List ℕ) → 2 ≤ length text
     → text ≡ take (length text - 2) text ++ getD text (length text - 2) 0 ∷ getD text (length text - 2 + 1) 0 ∷ []
 last-two text h =
     let n : ℕ = length text - 2 in
@@ -126,6 +129,19 @@ last-two text h =
       drop-more text (n + 1) 0 (omega arith),
       drop-all (n + 1 + 1) text (omega arith),
     )
+
+pub sealed-with : (text : List ℕ) (high low : ℕ) → crc text ≡ high * 256 + low → sealed (text ++ high ∷ low ∷ []) ≡ true
+sealed-with text high low e =
+    let whole : List ℕ = text ++ high ∷ low ∷ [] in
+    let long : length whole ≡ length text + 2 = length-append text (high ∷ low ∷ []) in
+    let size : length whole - 2 ≡ length text = omega arith in
+    let front : take (length whole - 2) whole ≡ text = ap (λ n. take n whole) size ∙ take-at text (high ∷ low ∷ []) (length text) refl in
+    let first : getD whole (length whole - 2) 0 ≡ high = ap (λ n. getD whole n 0) size ∙ getD-at text high (low ∷ []) 0 (length text) refl in
+    let second : getD whole (length whole - 2 + 1) 0 ≡ low =
+    ap (λ n. getD whole (n + 1) 0) size ∙ getD-append-add text (high ∷ low ∷ []) 1 0 in
+    let check : crc (take (length whole - 2) whole) ≡ getD whole (length whole - 2) 0 * 256 + getD whole (length whole - 2 + 1) 0 =
+    ap crc front ∙ e ∙ cc in
+    and-from (leb 2 (length whole)) _ (le-leb 2 (length whole) (omega arith)) (eq-eqb _ _ check)
 
 sealed-register : (text : List ℕ) → Bytes text → sealed text ≡ true → crc text ≡ 0
 sealed-register text bytes e =

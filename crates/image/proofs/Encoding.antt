@@ -1,23 +1,54 @@
 use mathlib.Core.Path.{_≡_, refl, sym, ap, subst, _∙_}
 use mathlib.Core.List.{List, [], _∷_, _++_}
-use Prim.Native.Nat.{ℕ, _+_, _-_, _*_, _<_, _≤_}
+use Prim.Native.Nat.{ℕ, _+_, _-_, _*_, _/_, _%_, _^_, _<_, _≤_}
 use native.Mathlib.Omega.{arith}
 use lib.IntN.{pos}
 use lib.ListN.{length, getD, set, take, drop, replicate, length-append, length-replicate}
 use borrow.Rule.Slice.PartMut.{putMid, postOf}
 use Rattle.std.specs.shelf.Lists.{joined}
-use Rattle.std.proofs.shelf.Lists.{append-assoc, drop-at, drop-drop, take-at, set-append-right, drop-replicate, replicate-append-replicate}
+use Rattle.std.proofs.shelf.Lists.{append-assoc, drop-at, drop-drop, take-at, take-all, set-append-right, drop-replicate, replicate-append-replicate}
+use mir.Facts.{fits-ofZ}
+use mir.Syntax.{w32}
+use mir.Val.{SFits, toZ, ofZ}
+use Rattle.std.proofs.shelf.Elements.{all-getD}
+use Rattle.std.proofs.shelf.Signed.{toZ-ofZ, ofZ-toZ}
 use Rattle.machine.specs.declared.instruction.Instruction.{Instruction}
-use Rattle.crc.specs.Crc.{crc}
-use Rattle.image.specs.Layout.{encode, layout}
+use Rattle.crc.specs.Crc.{crc, Bytes}
+use Rattle.image.specs.Layout.{encode, decode, layout}
 use Rattle.image.specs.Blocks.{zeros, header, two, covered, block}
+use Rattle.image.proofs.Numbers.{four-whole, bytes-of-four, stand-at}
 use Rattle.image.proofs.Sound.{Sound, length-covered}
 
-abbrev pub blank : Instruction
-blank = record { op = 0; r = 0; s = 0; t = 0; d = pos 0 }
+-- an instruction and its eight bytes stand for each other
+encode-decode : (bytes : List ℕ) → length bytes ≡ 8 → Bytes bytes → encode (decode bytes) ≡ bytes
+encode-decode bytes long each =
+    let byte : (i : ℕ) → i < 8 → getD bytes i 0 < 256 = λ i h. all-getD (λ b. b < 256) bytes i 0 (omega arith) each in
+    let a : ℕ = getD bytes 4 0 in
+    let b : ℕ = getD bytes 5 0 in
+    let c : ℕ = getD bytes 6 0 in
+    let d : ℕ = getD bytes 7 0 in
+    let a-fits = byte 4 (omega arith) in
+    let b-fits = byte 5 (omega arith) in
+    let c-fits = byte 6 (omega arith) in
+    let d-fits = byte 7 (omega arith) in
+    let n : ℕ = a * 2 ^ 24 + b * 2 ^ 16 + c * 2 ^ 8 + d in
+    let same : n ≡ ofZ w32 (toZ w32 n) = sym (ofZ-toZ w32 n (omega arith)) in
+    let four = bytes-of-four a b c d (ofZ w32 (toZ w32 n)) a-fits b-fits c-fits d-fits same in
+    sym (sym (take-all 8 bytes (omega arith))
+    ∙ stand-at bytes 0 (encode (decode bytes)) (omega arith)
+    (refl, (refl, (refl, (refl, (four .0, (four .1, (four .2, (four .3, tt)))))))))
+
+pub decode-encode : (i : Instruction) → SFits w32 (i .d) → decode (encode i) ≡ i
+decode-encode i fits =
+    let n : ℕ = ofZ w32 (i .d) in
+    let fits-bits = fits-ofZ {w = w32} {z = i .d} fits in
+    let whole = four-whole n (omega arith) in
+    let d : toZ w32 (n / 2 ^ 24 % 256 * 2 ^ 24 + n / 2 ^ 16 % 256 * 2 ^ 16 + n / 2 ^ 8 % 256 * 2 ^ 8 + n % 256) ≡ i .d =
+    ap (toZ w32) whole ∙ toZ-ofZ w32 (i .d) fits in
+    ap (λ x. record { op = i .op; r = i .r; s = i .s; t = i .t; d = x }) d
 
 pub sound : Sound layout
-sound = record { wide = λ _. refl; room = omega arith; some = omega arith; byte = omega arith; few = omega arith }
+sound = record { wide = λ _. refl; back = encode-decode; room = omega arith; some = omega arith; byte = omega arith; few = omega arith }
 
 -- a header and a body written over a list
 pub written-over : (head body zs : List ℕ) (k : ℕ) → length head ≡ 12 → length zs ≡ 512

@@ -1,6 +1,10 @@
+pub mod Numbers
 pub mod Pieces
 pub mod Sound
 pub mod Encoding
 pub mod Walks
 pub mod Faults
 pub mod Scan
+pub mod BlockForm
+pub mod ImageForm
+pub mod Damage

@@ -15,6 +15,7 @@ use Rattle.image.proofs.Pieces.{length-joined}
 -- What the argument asks of a layout; every edition of the block has it.
 pub record Sound {A : Type 0} (l : Layout A) : Type 0 where
   pub wide : (a : A) → length (l .encode a) ≡ l .width
+  pub back : (bytes : List ℕ) → length bytes ≡ l .width → Bytes bytes → l .encode (l .decode bytes) ≡ bytes
   pub room : l .width * l .capacity ≤ 498
   pub some : 1 ≤ l .capacity
   pub byte : l .capacity < 256

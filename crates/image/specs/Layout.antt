@@ -1,6 +1,7 @@
 use mathlib.Core.Bool.{Bool}
 use mathlib.Core.List.{List, [], _∷_}
 use Prim.Native.Nat.{ℕ, _+_, _*_, _/_, _%_, _^_}
+use lib.IntN.{pos}
 use lib.ListN.{getD}
 use mir.Syntax.{w32}
 use mir.Val.{toZ, ofZ}
@@ -33,6 +34,9 @@ decode bs = record {
   t = getD bs 3 0;
   d = toZ w32 (getD bs 4 0 * 2 ^ 24 + getD bs 5 0 * 2 ^ 16 + getD bs 6 0 * 2 ^ 8 + getD bs 7 0);
 }
+
+abbrev pub blank : Instruction
+blank = record { op = 0; r = 0; s = 0; t = 0; d = pos 0 }
 
 abbrev pub layout : Layout Instruction
 layout = record { width = 8; capacity = 62; limit = 794; formed = form.formed; encode = encode; decode = decode }

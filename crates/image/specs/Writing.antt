@@ -1,14 +1,17 @@
 use mathlib.Core.Bool.{Bool, cond, _&&_}
 use mathlib.Core.List.{List, [], _∷_, _++_}
-use Prim.Native.Nat.{ℕ, suc, _*_, _/_}
+use Prim.Native.Nat.{ℕ, suc, _*_, _/_, _<_}
 use lib.Dec.{eqb, leb}
-use lib.ListN.{length, drop}
+use lib.ListN.{length, getD, drop}
+use mir.Syntax.{w32}
+use mir.Val.{SFits}
 use Rattle.std.specs.declared.result.Result.{Result}
 use Rattle.std.specs.declared.result.Result.the-variants.{Ok, Err}
 use Rattle.refusal.specs.declared.Refusal.{Refusal}
 use Rattle.refusal.specs.declared.Reason.{Reason}
 use Rattle.refusal.specs.declared.Reason.the-variants.{InstructionForm, CodeLength, ImageStoreTooShort}
-use Rattle.image.specs.Layout.{Layout}
+use Rattle.machine.specs.declared.instruction.Instruction.{Instruction}
+use Rattle.image.specs.Layout.{Layout, blank}
 use Rattle.image.specs.Blocks.{blocks-for, image}
 
 abbrev pub refusal : Reason → ℕ → Refusal
@@ -18,6 +21,10 @@ refusal reason place = record { reason = reason; place = place }
 abbrev pub leading : {A : Type 0} → (A → Bool) → List A → ℕ
 leading test [] = 0
 leading test (x ∷ xs) = cond (test x) (suc (leading test xs)) 0
+
+-- in the first n instructions d is a number of 32 bits
+abbrev pub Words : List Instruction → ℕ → Type 0
+Words code n = (k : ℕ) → k < n → SFits w32 (getD code k blank .d)
 
 module _ {A : Type 0} (l : Layout A) where
   -- what write answers for a code and a store of so many bytes

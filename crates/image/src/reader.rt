@@ -2,12 +2,14 @@ ghost use mathlib.Core.Path.{_≡_};
 ghost use mathlib.Core.Bool.{cond};
 ghost use mathlib.Core.List.{_++_};
 ghost use Prim.Native.Nat.{ℕ, _+_, _*_, _/_, _<_, _≤_};
-ghost use lib.ListN.{length, getD, drop};
+ghost use lib.ListN.{length, getD, take, drop};
+ghost use Rattle.std.specs.Vec.{made};
 ghost use Rattle.std.specs.declared.option.Option.the-variants.{Some, None};
 ghost use Rattle.std.specs.declared.result.Result.the-variants.{Ok, Err};
 ghost use Rattle.machine.specs.Form.{formed};
 ghost use Rattle.image.specs.Layout.{decode, layout};
 ghost use Rattle.image.specs.Reading.{header-of, header-found, all, all-zero, instructions, count-right, header-right, body-right, fault, first-fault, content, unless, or-else, length-fault, four-at, read-reply, code-after};
+ghost use Rattle.image.specs.Laws.{Written-as, Damage-found};
 use crate::layout::BLOCK;
 use crate::layout::CAPACITY;
 use crate::layout::COVERED;
@@ -180,8 +182,7 @@ fn decode_blocks(image: &[u8], blocks: usize, code: &mut [Instruction])
     }
 }
 
-// Decodes an image to the front of the code store and gives its number of instructions.
-pub fn read(image: &[u8], code: &mut [Instruction]) -> Result<usize, Refusal>
+fn read_image(image: &[u8], code: &mut [Instruction]) -> Result<usize, Refusal>
     ensures reply { λ r. ⌜ r ≡ read-reply layout (now (image .entry)) (length (now (code .entry))) ⌝ }
     ensures store { λ r. ⌜ now (code .exit) ≡ code-after layout (now (image .entry)) (now (code .entry)) r ⌝ }
 {
@@ -195,6 +196,16 @@ pub fn read(image: &[u8], code: &mut [Instruction]) -> Result<usize, Refusal>
     }
     decode_blocks(image, blocks, code);
     Ok(count)
+}
+
+// Decodes an image to the front of the code store and gives its number of instructions.
+pub fn read(image: &[u8], code: &mut [Instruction]) -> Result<usize, Refusal>
+    ensures reply { λ r. ⌜ r ≡ read-reply layout (now (image .entry)) (length (now (code .entry))) ⌝ }
+    ensures store { λ r. ⌜ now (code .exit) ≡ code-after layout (now (image .entry)) (now (code .entry)) r ⌝ }
+    ensures one_form { λ r. ⌜ made r (λ n. Written-as layout (now (image .entry)) (four-at (now (image .entry)) 0) (take n (now (code .exit)))) ⌝ }
+    ensures damage { λ r. ⌜ Damage-found layout (now (image .entry)) r ⌝ }
+{
+    read_image(image, code)
 }
 
 // What the header and the last two bytes of a block hold.

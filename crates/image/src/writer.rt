@@ -1,11 +1,15 @@
 ghost use mathlib.Core.Path.{_≡_};
 ghost use mathlib.Core.List.{_++_};
 ghost use Prim.Native.Nat.{_+_, _*_, _/_, _<_, _≤_};
-ghost use lib.ListN.{length, drop};
+ghost use lib.ListN.{length, take, drop};
+ghost use mir.Syntax.{w32};
+ghost use mir.Val.{SFits};
+ghost use Rattle.std.specs.Vec.{made};
 ghost use Rattle.machine.specs.Form.{formed};
 ghost use Rattle.image.specs.Layout.{layout};
 ghost use Rattle.image.specs.Blocks.{blocks-for, image};
-ghost use Rattle.image.specs.Writing.{leading, write-reply, store-after};
+ghost use Rattle.image.specs.Writing.{leading, write-reply, store-after, Words};
+ghost use Rattle.image.specs.Laws.{Reads-as, Sixty-three};
 use crate::encode::encode_block;
 use crate::layout::BLOCK;
 use crate::layout::CAPACITY;
@@ -14,12 +18,20 @@ use machine::instruction::Instruction;
 use refusal::Reason;
 use refusal::Refusal;
 
+fn is_formed(i: Instruction) -> bool
+    ensures value { λ r. ⌜ r ≡ formed i ⌝ }
+    ensures word { λ _. ⌜ SFits w32 (i .d) ⌝ }
+{
+    i.has_form()
+}
+
 // How many instructions stand before the first that has not the form.
 fn leading_formed(code: &[Instruction]) -> usize
-    ensures { λ r. ⌜ r ≡ leading formed (now (code .entry)) ⌝ }
+    ensures value { λ r. ⌜ r ≡ leading formed (now (code .entry)) ⌝ }
+    ensures words { λ r. ⌜ Words (now (code .entry)) r ⌝ }
 {
     for (k, i) in code.iter().enumerate() {
-        if !i.has_form() {
+        if !is_formed(*i) {
             return k;
         }
     }
@@ -38,8 +50,8 @@ fn write_blocks(number: u32, code: &[Instruction], blocks: usize, store: &mut [u
     }
 }
 
-// Writes the image of `code` to the front of the store and gives its number of blocks.
-pub fn write(number: u32, code: &[Instruction], store: &mut [u8]) -> Result<usize, Refusal>
+fn write_image(number: u32, code: &[Instruction], store: &mut [u8]) -> Result<usize, Refusal>
+    ensures words { λ r. ⌜ made r (λ _. Words (now (code .entry)) (length (now (code .entry)))) ⌝ }
     ensures reply { λ r. ⌜ r ≡ write-reply layout (now (code .entry)) (length (now (store .entry))) ⌝ }
     ensures store { λ r. ⌜ now (store .exit) ≡ store-after layout number (now (code .entry)) (now (store .entry)) r ⌝ }
 {
@@ -66,4 +78,14 @@ pub fn write(number: u32, code: &[Instruction], store: &mut [u8]) -> Result<usiz
     }
     write_blocks(number, code, blocks, store);
     Ok(blocks)
+}
+
+// Writes the image of `code` to the front of the store and gives its number of blocks.
+pub fn write(number: u32, code: &[Instruction], store: &mut [u8]) -> Result<usize, Refusal>
+    ensures reply { λ r. ⌜ r ≡ write-reply layout (now (code .entry)) (length (now (store .entry))) ⌝ }
+    ensures store { λ r. ⌜ now (store .exit) ≡ store-after layout number (now (code .entry)) (now (store .entry)) r ⌝ }
+    ensures read_back { λ r. ⌜ made r (λ blocks. Reads-as layout (take (512 * blocks) (now (store .exit))) (now (code .entry))) ⌝ }
+    ensures sample { λ _. ⌜ Sixty-three ⌝ }
+{
+    write_image(number, code, store)
 }

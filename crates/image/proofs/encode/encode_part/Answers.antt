@@ -9,7 +9,7 @@ use Rattle.std.proofs.shelf.Lists.{take-all}
 use Rattle.std.proofs.shelf.Parts.{take-putMid}
 use Rattle.image.specs.Layout.{encode}
 use Rattle.image.proofs.Pieces.{joined-next}
-use Rattle.image.proofs.Encoding.{blank}
+use Rattle.image.specs.Layout.{blank}
 use Rattle.image.proofs.encode.encode_part.Needs as need
 
 pub loop-k-again : need.loop-k-again
