@@ -1,9 +1,10 @@
 ghost use mathlib.Core.Path.{_≡_};
 ghost use Prim.Native.Nat.{_+_, _*_, _<_, _≤_};
-ghost use lib.ListN.{length};
+ghost use lib.ListN.{length, take};
+ghost use Rattle.crc.specs.Crc.{crc};
 ghost use Rattle.std.specs.shelf.Lists.{joined};
 ghost use Rattle.image.specs.Layout.{encode, layout};
-ghost use Rattle.image.specs.Blocks.{header, block};
+ghost use Rattle.image.specs.Blocks.{two, header, block};
 use crate::layout::COVERED;
 use crate::layout::HEADER;
 use crate::layout::WIDTH;
@@ -49,6 +50,14 @@ fn encode_part(bytes: &mut [u8], part: &[Instruction])
     }
 }
 
+// The check of the bytes before the last two.
+fn check_of(block: &[u8]) -> [u8; 2]
+    requires { ⌜ length (now block) ≡ 512 ⌝ }
+    ensures { λ bytes. ⌜ bytes ≡ two (crc (take 510 (now (block .entry)))) ⌝ }
+{
+    crc16(&block[0..COVERED]).to_be_bytes()
+}
+
 // Makes the block of this index, which holds `part`.
 pub fn encode_block(
     bytes: &mut [u8],
@@ -63,7 +72,7 @@ pub fn encode_block(
     bytes.fill(0);
     bytes[0..HEADER].copy_from_slice(&encoded_header(number, index, blocks, part.len()));
     encode_part(&mut bytes[HEADER..HEADER + WIDTH * part.len()], part);
-    let check = crc16(&bytes[0..COVERED]).to_be_bytes();
+    let check = check_of(bytes);
     bytes[COVERED] = check[0];
     bytes[COVERED + 1] = check[1];
 }
