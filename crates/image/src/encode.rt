@@ -59,7 +59,7 @@ fn check_of(block: &[u8]) -> [u8; 2]
 }
 
 // Makes the block of this index, which holds `part`.
-pub fn encode_block(
+pub(crate) fn encode_block(
     bytes: &mut [u8],
     number: u32,
     index: usize,

@@ -8,9 +8,9 @@ use std::alloc::Global;
 use std::test::*;
 
 // What the stores hold before a call. No image holds this instruction.
-pub const MARK: u8 = 0xa5;
+pub(crate) const MARK: u8 = 0xa5;
 
-pub const UNTOUCHED: Instruction = Instruction {
+pub(crate) const UNTOUCHED: Instruction = Instruction {
     op: 99,
     r: 98,
     s: 97,
@@ -20,17 +20,17 @@ pub const UNTOUCHED: Instruction = Instruction {
 
 // An instruction of a table: op, r, s, t, d.
 #[derive(Clone, Copy)]
-pub struct Row(pub u8, pub u8, pub u8, pub u8, pub i32);
+pub(crate) struct Row(pub u8, pub u8, pub u8, pub u8, pub i32);
 
 impl Row {
-    pub fn instruction(self) -> Instruction {
+    pub(crate) fn instruction(self) -> Instruction {
         let Row(op, r, s, t, d) = self;
         Instruction { op, r, s, t, d }
     }
 }
 
 // So many instructions of the form, no two the same.
-pub fn sample_code(heap: Global, count: u16) -> Result<Vec<Instruction>, AllocError> {
+pub(crate) fn sample_code(heap: Global, count: u16) -> Result<Vec<Instruction>, AllocError> {
     let mut code = Vec::new(heap);
     for k in 0..count {
         let register = (k % 8) as u8;
@@ -41,14 +41,14 @@ pub fn sample_code(heap: Global, count: u16) -> Result<Vec<Instruction>, AllocEr
 }
 
 // The image of so many instructions, which takes `size` bytes.
-pub fn sample_image(heap: Global, count: u16, size: usize) -> Result<Vec<u8>, Fail> {
+pub(crate) fn sample_image(heap: Global, count: u16, size: usize) -> Result<Vec<u8>, Fail> {
     let code = sample_code(heap, count)?;
     let mut store = vec![in heap; MARK; size]?;
     let _blocks = image::write(7, code.as_slice(), store.as_mut_slice())?;
     Ok(store)
 }
 
-pub fn are_marked(bytes: &[u8]) -> bool {
+pub(crate) fn are_marked(bytes: &[u8]) -> bool {
     for byte in bytes {
         if *byte != MARK {
             return false;
@@ -57,7 +57,7 @@ pub fn are_marked(bytes: &[u8]) -> bool {
     true
 }
 
-pub fn are_untouched(code: &[Instruction]) -> bool {
+pub(crate) fn are_untouched(code: &[Instruction]) -> bool {
     for instruction in code {
         if *instruction != UNTOUCHED {
             return false;
@@ -67,7 +67,7 @@ pub fn are_untouched(code: &[Instruction]) -> bool {
 }
 
 // The number and the place of a refusal.
-pub fn refused(reply: Result<usize, Refusal>) -> Option<(u8, usize)> {
+pub(crate) fn refused(reply: Result<usize, Refusal>) -> Option<(u8, usize)> {
     match reply {
         Ok(_) => None,
         Err(refusal) => Some((refusal.reason.number(), refusal.place)),
@@ -75,7 +75,7 @@ pub fn refused(reply: Result<usize, Refusal>) -> Option<(u8, usize)> {
 }
 
 // That reading into so many places is refused, and leaves the places as they were.
-pub fn check_refused(
+pub(crate) fn check_refused(
     heap: Global,
     image: &[u8],
     room: usize,
@@ -87,7 +87,7 @@ pub fn check_refused(
     check(are_untouched(store.as_slice()))
 }
 
-pub fn put(bytes: &mut [u8], at: usize, value: u8) -> Result<(), Fail> {
+pub(crate) fn put(bytes: &mut [u8], at: usize, value: u8) -> Result<(), Fail> {
     if at >= bytes.len() {
         return Err(Fail::new("no such byte"));
     }
@@ -96,7 +96,7 @@ pub fn put(bytes: &mut [u8], at: usize, value: u8) -> Result<(), Fail> {
 }
 
 // Sets the last two bytes of a block to its check.
-pub fn reseal(image: &mut [u8], block: u16) -> Result<(), Fail> {
+pub(crate) fn reseal(image: &mut [u8], block: u16) -> Result<(), Fail> {
     let start = 512 * usize::from(block);
     if image.len() < start + 512 {
         return Err(Fail::new("no such block"));
