@@ -1,11 +1,7 @@
-use lib.IntN.{ℤ, pos}
-use lib.Signed.{leZ}
-use lib.Dec.{eqb, leb}
 use mathlib.Core.Bool.{Bool, not, _&&_, _||_}
+use lib.Dec.{eqb, leb}
+use Rattle.word.specs.Arithmetic.{is-zero}
 use Rattle.machine.specs.declared.instruction.Instruction.{Instruction}
-
-abbrev pub zeroZ : ℤ → Bool
-zeroZ x = leZ x (pos 0) && leZ (pos 0) x
 
 -- The form of an instruction: op is 0 to 16 and r, s, t are 0 to 7;
 -- t is 0 but in ops 3 to 6; d is 0 in ops 0 to 6; s is 0 in ops 0 to 2 and 10.
@@ -13,5 +9,5 @@ abbrev pub formed : Instruction → Bool
 formed i =
     leb (i .op) 16 && (leb (i .r) 7 && (leb (i .s) 7 && (leb (i .t) 7
     && ((eqb (i .t) 0 || (leb 3 (i .op) && leb (i .op) 6))
-    && ((zeroZ (i .d) || leb 7 (i .op))
+    && ((leb 7 (i .op) || is-zero (i .d))
     && (eqb (i .s) 0 || (leb 3 (i .op) && not (eqb (i .op) 10))))))))

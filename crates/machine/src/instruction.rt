@@ -21,7 +21,7 @@ impl Instruction {
             && self.s <= 7
             && self.t <= 7
             && (self.t == 0 || (3 <= self.op && self.op <= 6))
-            && (self.d == 0 || 7 <= self.op)
+            && (7 <= self.op || self.d == 0)
             && (self.s == 0 || (3 <= self.op && self.op != 10))
     }
 }

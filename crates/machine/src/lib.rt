@@ -1,1 +1,8 @@
+pub mod grant;
 pub mod instruction;
+mod step;
+pub mod stop;
+
+pub use self::grant::Ran;
+pub use self::grant::run;
+pub use self::stop::Stop;

@@ -1,0 +1,4 @@
+pub mod Acts
+pub mod Next
+pub mod Runs
+pub mod LeftOver

@@ -1,0 +1,9 @@
+use mathlib.Core.Path.{_∙_}
+use native.Mathlib.Omega.{arith}
+use Rattle.machine.proofs.LeftOver.{left-spent}
+use Rattle.machine.proofs.grant.go.Needs as need
+
+pub returns : need.returns
+returns g c =
+    let l = c .loop-left in
+    left-spent (g .P·Port .ways) (c .args .code .now) (l .left) (record { registers = l .registers; cells = l .cells }) (g .P·Port .meaning (l .port)) (omega arith) ∙ l .inv
