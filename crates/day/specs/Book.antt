@@ -9,8 +9,7 @@ use Rattle.port.specs.Ways.{Ways}
 use Rattle.machine.specs.declared.instruction.Instruction.{Instruction}
 use Rattle.machine.specs.declared.stop.Stop.{Stop}
 use Rattle.machine.specs.Machine.{State, start, act}
-use Rattle.machine.specs.Run.{Event, Steps, Outcome, run-over}
-use Rattle.machine.specs.Laws.{Next}
+use Rattle.machine.specs.Run.{Event, Steps, Outcome, run-over, Next}
 use Rattle.image.specs.Layout.{layout}
 use Rattle.image.specs.Reading.{code-of}
 use Rattle.day.specs.declared.Command.{Command}

@@ -37,10 +37,19 @@ module _ {M : Type 0} (w : Ways M) (i : Instruction) (s : State) (m : M) (has-fo
   does : (op : ℕ) → i .op ≡ op → here ≡ turn w (act-of true op i s) m
   does op e = ap (λ b. turn w (act-of b (i .op) i s) m) (sym has-form) ∙ ap (λ n. turn w (act-of true n i s) m) e
 
-  pub writes : (op : ℕ) → i .op ≡ op → (v z : ℤ) → act-of true op i s ≡ silent (with-register s (i .r) z) → v ≡ z
+  writes : (op : ℕ) → i .op ≡ op → (v z : ℤ) → act-of true op i s ≡ silent (with-register s (i .r) z) → v ≡ z
       → here ≡ goes (with-register s (i .r) v) m
   writes op e v z acts same =
       does op e ∙ ap (λ a. turn w a m) acts ∙ ap (λ u. goes (with-register s (i .r) u) m) (sym same)
+
+  pub computes : (op : ℕ) → i .op ≡ op → (f : ℤ → ℤ → ℤ)
+      → act-of true op i s ≡ silent (with-register s (i .r) (f (register s (i .s)) (register s (i .t))))
+      → (z : ℤ) → SFits w32 (register s (i .s)) → SFits w32 (register s (i .t)) → SFits w32 z
+      → z ≡ f (toZ w32 (ofZ w32 (register s (i .s)))) (toZ w32 (ofZ w32 (register s (i .t))))
+      → here ≡ goes (with-register s (i .r) (toZ w32 (ofZ w32 z))) m
+  computes op e f acts z x-fits y-fits z-fits is =
+      writes op e (toZ w32 (ofZ w32 z)) (f (register s (i .s)) (register s (i .t))) acts
+      (computed f (register s (i .s)) (register s (i .t)) z x-fits y-fits z-fits is)
 
   pub divides : i .op ≡ 6 → (v q : ℤ) → quotient (register s (i .s)) (register s (i .t)) ≡ Some q → v ≡ q
       → here ≡ goes (with-register s (i .r) v) m
@@ -50,7 +59,8 @@ module _ {M : Type 0} (w : Ways M) (i : Instruction) (s : State) (m : M) (has-fo
 
   pub takes-in : i .op ≡ 1 → (v u : ℤ) (k : M) → u ≡ word v → Took w m (Some v) k → here ≡ goes (with-register s (i .r) u) k
   takes-in e v u k same t =
-      let by : Option ℤ → Turn M = λ o. elim o [ Some n ↦ goes (with-register s (i .r) (word n)) (w .taken m) | None ↦ ends Waiting ] in
+      let by : Option ℤ → Turn M =
+      λ o. elim o [ Some n ↦ goes (with-register s (i .r) (word n)) (w .taken m) | None ↦ ends Waiting ] in
       let left : k ≡ w .taken m = t .after-is ∙ ap (λ o. if-waiting o (w .taken m) m) (sym (t .reply-is)) in
       does 1 e ∙ ap by (sym (t .reply-is)) ∙ cc
 

@@ -23,7 +23,8 @@ module _ {M : Type 0} where
 
 module _ {M : Type 0} (w : Ways M) (code : List Instruction) (n : ℕ) (s : State) (m : M) where
   pub left-spent : n ≡ 0 → telling Spent n s m ≡ left-over w code n s m
-  left-spent none = subst (λ k. telling Spent k s m ≡ left-over w code k s m) (sym none) (ap (leaving 0) (sym (run-zero w code s m)))
+  left-spent none =
+      subst (λ k. telling Spent k s m ≡ left-over w code k s m) (sym none) (ap (leaving 0) (sym (run-zero w code s m)))
 
   pub left-ends : (j : ℕ) → suc j ≡ n → (x : Stop) (t : State) (k : M) → Stepped w (act code s) s m (Some x) t k
       → telling x n t k ≡ left-over w code n s m
@@ -41,7 +42,8 @@ module _ {M : Type 0} (w : Ways M) (code : List Instruction) (n : ℕ) (s : Stat
       (ap (λ i. telling (o .stop) i (o .state) (o .port)) one ∙ ap (leaving (suc j)) (sym (run-goes w code j s m t k e)))
 
   -- the steps made are those that are not left
-  pub made : (l : Told M) → l ≡ left-over w code n s m → telling (l .stop) (n - l .steps) (l .state) (l .port) ≡ told (run-over w code n s m)
+  pub made : (l : Told M) → l ≡ left-over w code n s m
+      → telling (l .stop) (n - l .steps) (l .state) (l .port) ≡ told (run-over w code n s m)
   made l e =
       let o : Outcome M = run-over w code n s m in
       let all : n - (n - o .steps) ≡ o .steps = omega (arith, run-is-steps w code n s m .at-most) in

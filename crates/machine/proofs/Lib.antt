@@ -1,4 +1,4 @@
-pub mod Acts
+mod Acts
 pub mod Next
 pub mod Runs
-pub mod LeftOver
+mod LeftOver

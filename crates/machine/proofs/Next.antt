@@ -1,10 +1,9 @@
 -- The instruction at register 7, and register 7 put back where it stops.
-use mathlib.Core.Path.{_≡_, refl, sym, ap, subst, _∙_}
+use mathlib.Core.Path.{_≡_, refl, sym, ap, _∙_}
 use mathlib.Core.List.{List}
 use mathlib.Core.Bool.{true, false, cond}
-use Prim.Native.Nat.{ℕ}
 use lib.IntN.{ℤ, pos, natAbs}
-use lib.ListN.{length, getD, set}
+use lib.ListN.{length, getD}
 use lib.Seq.{set-getD, set-set}
 use Rattle.std.specs.declared.option.Option.{Option}
 use Rattle.std.specs.declared.option.Option.the-variants.{Some, None}
@@ -23,7 +22,7 @@ put-back s = ap (λ g. state-of g (s .cells)) (set-getD (s .registers) 7 (pos 0)
 
 module _ (code : List Instruction) (s : State) where
   -- the instruction at this place acts, with this number in register 7
-  abbrev act-at : ℤ → ℤ → Act
+  abbrev pub act-at : ℤ → ℤ → Act
   act-at p n = let i : Instruction = getD code (natAbs p) blank in act-of (formed i) (i .op) i (with-register s 7 n)
 
   pub acts-inside : within (register s 7) (length code) ≡ true → act code s ≡ act-at (register s 7) (sum (register s 7) (pos 1))

@@ -2,8 +2,8 @@
 use mathlib.Core.Path.{_≡_, refl, sym, ap, subst, _∙_}
 use mathlib.Core.List.{List, [], _∷_, _++_, append-assoc}
 use mathlib.Core.Bool.{Bool, true, false, cond}
-use Prim.Native.Nat.{ℕ, zero, suc, _+_, _-_, _≤_, _<_}
-use native.Mathlib.Nat.{zero-add, suc-add, add-assoc, sub-zero}
+use Prim.Native.Nat.{ℕ, zero, suc, _+_}
+use native.Mathlib.Nat.{zero-add, suc-add, add-assoc}
 use native.Mathlib.Numerals.{one-add}
 use native.Mathlib.Omega.{arith}
 use lib.IntN.{ℤ}
@@ -15,10 +15,11 @@ use Rattle.word.specs.Arithmetic.{word}
 use Rattle.port.specs.Ways.{Ways}
 use Rattle.machine.specs.declared.instruction.Instruction.{Instruction}
 use Rattle.machine.specs.declared.stop.Stop.{Stop}
-use Rattle.machine.specs.declared.stop.Stop.the-variants.{Halt, Divisor, Address, Place, Waiting, Blocked, Spent}
+use Rattle.machine.specs.declared.stop.Stop.the-variants.{Waiting, Blocked, Spent}
 use Rattle.machine.specs.Machine.{State, Cause, halt, divisor, address, place, Act, silent, takes, puts, stops, act}
-use Rattle.machine.specs.Run.{Event, took, gave, Steps, none, silently, taking, giving, stop-of, Turn, ends, goes, turn, events-of, Outcome, ended, after, run-over}
-use Rattle.machine.specs.Laws.{Next, Made, Run-is-steps, Grants-add}
+use Rattle.machine.specs.Run.{Event, took, gave, Steps, none, silently, taking, giving, stop-of, Turn, ends, goes, turn}
+use Rattle.machine.specs.Run.{events-of, Outcome, ended, after, run-over, Next}
+use Rattle.machine.specs.Laws.{Made, Run-is-steps, Grants-add}
 
 -- ---- the first act
 
@@ -84,7 +85,8 @@ module _ {M : Type 0} (code : List Instruction) (s : State) (n : ℕ) where
       → ((k : ℕ) (fs : List Event) (u : State) → Steps code t k fs u → Steps code s (suc k) (es ++ fs) u)
       → Made code t n o → Made code s (suc n) (after 1 es o)
   later t es o first r = record {
-    way = subst (λ k. Steps code s k (es ++ o .events) (o .state)) (sym (one-add (o .steps))) (first (o .steps) (o .events) (o .state) (r .way));
+    way = subst (λ k. Steps code s k (es ++ o .events) (o .state)) (sym (one-add (o .steps)))
+        (first (o .steps) (o .events) (o .state) (r .way));
     next = r .next;
     at-most = omega (arith, r .at-most);
     spent = λ e. omega (arith, r .spent e);
@@ -99,7 +101,8 @@ module _ {M : Type 0} (w : Ways M) (code : List Instruction) (n : ℕ) (s : Stat
       (elim o [ Some v ↦ took (word v) ∷ [] | None ↦ [] ]))
   reached-take f e None = stays code s n m Waiting (f, e) (λ same. let z : _≡_ {A = ℕ} 0 1 = cc in omega arith)
   reached-take f e (Some v) =
-      later code s n (f (word v)) (took (word v) ∷ []) _ (λ k fs u. taking e (word v) (sfits-wrapped w32 v)) (ih (f (word v)) (w .taken m))
+      later code s n (f (word v)) (took (word v) ∷ []) _ (λ k fs u. taking e (word v) (sfits-wrapped w32 v))
+      (ih (f (word v)) (w .taken m))
 
   reached-put : (v : ℤ) (t : State) → act code s ≡ puts v t → (b : Bool)
       → Made code s (suc n) (on w code n s m (cond b (goes t (w .became m v)) (ends (Blocked v))) (gave v ∷ []))
@@ -137,7 +140,8 @@ module _ {M : Type 0} (w : Ways M) (code : List Instruction) where
   followed h o = after (o .steps) (o .events) (run-over w code h (o .state) (o .port))
 
   add-turn : (g h : ℕ) (s : State) (m : M)
-      → ((t : State) (k : M) → run-over w code g t k .stop ≡ Spent → run-over w code (g + h) t k ≡ followed h (run-over w code g t k))
+      → ((t : State) (k : M) → run-over w code g t k .stop ≡ Spent
+      → run-over w code (g + h) t k ≡ followed h (run-over w code g t k))
       → run-over w code (suc g) s m .stop ≡ Spent → (t : Turn M) → turn w (act code s) m ≡ t
       → run-over w code (suc g + h) s m ≡ followed h (run-over w code (suc g) s m)
   add-turn g h s m ih spent (ends x) e =

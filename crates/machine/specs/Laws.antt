@@ -1,23 +1,11 @@
 use mathlib.Core.Path.{_≡_}
 use mathlib.Core.List.{List}
 use Prim.Native.Nat.{ℕ, _+_, _≤_}
-use lib.IntN.{ℤ}
 use Rattle.port.specs.Ways.{Ways}
 use Rattle.machine.specs.declared.instruction.Instruction.{Instruction}
-use Rattle.machine.specs.declared.stop.Stop.{Stop}
-use Rattle.machine.specs.declared.stop.Stop.the-variants.{Halt, Divisor, Address, Place, Waiting, Blocked, Spent}
-use Rattle.machine.specs.Machine.{State, halt, divisor, address, place, Act, takes, puts, stops, act}
-use Rattle.machine.specs.Run.{Steps, Outcome, after, run-over}
-
--- a stop other than for a spent grant is what the machine does next
-abbrev pub Next : Act → Stop → Type 0
-Next a (Halt r) = a ≡ stops (halt r)
-Next a Divisor = a ≡ stops divisor
-Next a Address = a ≡ stops address
-Next a Place = a ≡ stops place
-Next a Waiting = (f : ℤ → State) × (a ≡ takes f)
-Next a (Blocked v) = (s : State) × (a ≡ puts v s)
-Next a Spent = Unit {0}
+use Rattle.machine.specs.declared.stop.Stop.the-variants.{Spent}
+use Rattle.machine.specs.Machine.{State, act}
+use Rattle.machine.specs.Run.{Steps, Outcome, after, run-over, Next}
 
 -- An outcome is reached by its steps with its events, and its stop stands next.
 -- The grant n is spent exactly when so many steps are made.

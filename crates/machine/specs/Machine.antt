@@ -6,7 +6,7 @@ use lib.IntN.{ℤ, pos, natAbs}
 use lib.ListN.{length, getD, set, replicate}
 use lib.Signed.{leZ, ltZ}
 use Rattle.std.specs.declared.option.Option.the-variants.{Some, None}
-use Rattle.word.specs.Arithmetic.{sum, difference, product, quotient, is-zero}
+use Rattle.word.specs.Arithmetic.{sum, difference, product, quotient, is-zero, less}
 use Rattle.machine.specs.declared.instruction.Instruction.{Instruction}
 use Rattle.machine.specs.Form.{formed}
 
@@ -27,7 +27,7 @@ pub data Cause : Type 0 where
   halt : ℕ → Cause
   divisor address place : Cause
 
--- what an instruction does
+-- what an instruction does, whatever the port
 pub data Act : Type 0 where
   silent : State → Act
   takes : (ℤ → State) → Act
@@ -38,12 +38,12 @@ pub data Act : Type 0 where
 abbrev pub within : ℤ → ℕ → Bool
 within a n = leZ (pos 0) a && ltZ a (pos n)
 
--- whether the jump of this op goes by a register's number
+-- whether a jump goes on this number: 11 JLT, 12 JLE, 13 JGT, 14 JGE, 15 JEQ, 16 JNE
 abbrev pub jumps : ℕ → ℤ → Bool
 jumps op v =
-    cond (eqb op 11) (ltZ v (pos 0))
+    cond (eqb op 11) (less v (pos 0))
     (cond (eqb op 12) (leZ v (pos 0))
-    (cond (eqb op 13) (ltZ (pos 0) v)
+    (cond (eqb op 13) (less (pos 0) v)
     (cond (eqb op 14) (leZ (pos 0) v)
     (cond (eqb op 15) (is-zero v)
     (not (is-zero v))))))
@@ -57,7 +57,8 @@ with-register s k v = state-of (set (s .registers) k v) (s .cells)
 abbrev pub with-cell : State → ℕ → ℤ → State
 with-cell s k v = state-of (s .registers) (set (s .cells) k v)
 
--- The act of an instruction of this form and op; register 7 is raised already.
+-- The act of an instruction that has the form or not, by its op; register 7 is raised already. The ops are
+-- 0 HALT, 1 IN, 2 OUT, 3 ADD, 4 SUB, 5 MUL, 6 DIV, 7 LD, 8 ST, 9 LDA, 10 LDC, and then the jumps.
 abbrev pub act-of : Bool → ℕ → Instruction → State → Act
 act-of false op i s = stops place
 act-of true op i s =

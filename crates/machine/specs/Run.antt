@@ -1,11 +1,10 @@
 use mathlib.Core.Path.{_≡_}
-use mathlib.Core.Bool.{Bool, cond}
+use mathlib.Core.Bool.{cond}
 use mathlib.Core.List.{List, [], _∷_, _++_}
 use Prim.Native.Nat.{ℕ, zero, suc, _+_}
 use lib.IntN.{ℤ}
 use mir.Syntax.{w32}
 use mir.Val.{SFits}
-use Rattle.std.specs.declared.option.Option.{Option}
 use Rattle.std.specs.declared.option.Option.the-variants.{Some, None}
 use Rattle.word.specs.Arithmetic.{word}
 use Rattle.port.specs.Ways.{Ways}
@@ -84,3 +83,13 @@ pub record Told (M : Type 0) : Type 0 where
 
 abbrev pub told : {M : Type 0} → Outcome M → Told M
 told o = record { stop = o .stop; steps = o .steps; state = o .state; port = o .port }
+
+-- a stop other than for a spent grant is what the machine does next
+abbrev pub Next : Act → Stop → Type 0
+Next a (Halt r) = a ≡ stops (halt r)
+Next a Divisor = a ≡ stops divisor
+Next a Address = a ≡ stops address
+Next a Place = a ≡ stops place
+Next a Waiting = (f : ℤ → State) × (a ≡ takes f)
+Next a (Blocked v) = (s : State) × (a ≡ puts v s)
+Next a Spent = Unit {0}

@@ -38,7 +38,8 @@ fn address(i: &Instruction, registers: &[i32; 8]) -> i32
 
 fn reaches(i: &Instruction, registers: &[i32; 8], cells: &[i32]) -> bool
     requires { ⌜ now i .s < 8 ⌝ }
-    ensures { λ r. ⌜ r ≡ within (sum (now (i .entry) .d) (getD (now (registers .entry)) (now (i .entry) .s) (pos 0))) (length (now (cells .entry))) ⌝ }
+    ensures { λ r. ⌜ r ≡ within (sum (now (i .entry) .d) (getD (now (registers .entry)) (now (i .entry) .s) (pos 0)))
+        (length (now (cells .entry))) ⌝ }
 {
     is_within(address(i, registers), cells.len())
 }
@@ -51,7 +52,8 @@ fn perform<P: Port>(
     port: &mut P,
 ) -> Option<Stop>
     ensures { λ r. ⌜ Stepped (P·Port .ways)
-        (act-of (formed (now (i .entry))) (now (i .entry) .op) (now (i .entry)) (state-of (now (registers .entry)) (now (cells .entry))))
+        (act-of (formed (now (i .entry))) (now (i .entry) .op) (now (i .entry))
+        (state-of (now (registers .entry)) (now (cells .entry))))
         (state-of (now (registers .entry)) (now (cells .entry))) (P·Port .meaning (now (port .entry)))
         r (state-of (now (registers .exit)) (now (cells .exit))) (P·Port .meaning (now (port .exit))) ⌝ }
 {

@@ -31,7 +31,9 @@ fn append(log: &mut [i32], count: usize, v: i32)
 
 impl<'r, 'l> Record<'r, 'l> {
     pub fn new(readings: &'r [i32], log: &'l mut [i32]) -> Record<'r, 'l>
-        ensures meaning { λ r. ⌜ recorded (now (r .unread)) (now (r .log)) (r .count) ≡ record { unread = now (readings .entry); log = []; room = length (now (log .entry)) } ⌝ }
+        ensures meaning { λ r. ⌜ recorded (now (r .unread)) (now (r .log)) (r .count)
+            ≡ record { unread = now (readings .entry); log = []; room = length (now (log .entry)) } ⌝ }
+        ensures count { λ r. ⌜ r .count ≡ 0 ⌝ }
         ensures total { λ r. ⌜ r .total ≡ length (now (readings .entry)) ⌝ }
         ensures log { λ r. ⌜ now (r .log) ≡ now (log .entry) ⌝ }
     {

@@ -13,7 +13,13 @@ use Rattle.word.proofs.divided.Needs as need
 
 exact : (a b : ℤ) → SFits w32 a → SFits w32 b → SFits w32 (quotZ a b) → is-zero b ≡ false
     → Some (toZ w32 (ofZ w32 (quotZ (toZ w32 (ofZ w32 a)) (toZ w32 (ofZ w32 b))))) ≡ quotient a b
-exact a b a-fits b-fits fits nonzero = rw (toZ-ofZ w32 a a-fits, toZ-ofZ w32 b b-fits, toZ-ofZ w32 (quotZ a b) fits, nonzero, wrapped-fits w32 (quotZ a b) fits)
+exact a b a-fits b-fits fits nonzero = rw (
+  toZ-ofZ w32 a a-fits,
+  toZ-ofZ w32 b b-fits,
+  toZ-ofZ w32 (quotZ a b) fits,
+  nonzero,
+  wrapped-fits w32 (quotZ a b) fits,
+)
 
 pub returns-in-rest : need.returns-in-rest
 returns-in-rest c =

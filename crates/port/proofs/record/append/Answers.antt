@@ -10,4 +10,5 @@ pub returns : need.returns
 returns c =
     let log = c .args .log .now in
     let count = c .args .count in
-    ap (λ v. take (count + 1) (set log count v)) (toZ-ofZ w32 (c .args .v) (c .fits .v)) ∙ take-more-set log count (c .args .v) (c .pre)
+    ap (λ v. take (count + 1) (set log count v)) (toZ-ofZ w32 (c .args .v) (c .fits .v))
+    ∙ take-more-set log count (c .args .v) (c .pre)
