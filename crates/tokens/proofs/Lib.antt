@@ -1,0 +1,13 @@
+pub mod Codes
+pub mod Fronts
+pub mod Comments
+pub mod Numbers
+pub mod Reserved
+pub mod Texts
+pub mod Standing
+pub mod Total
+pub mod Unique
+pub mod Survey
+pub mod Filling
+pub mod Lexing
+pub mod Samples
