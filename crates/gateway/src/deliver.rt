@@ -10,6 +10,9 @@ use crate::damage::invert_bits;
 use crate::error::Fault;
 use crate::error::FaultFromIo;
 use crate::error::FaultFromRefusal;
+use crate::ops::HALT;
+use crate::ops::LDC;
+use crate::ops::OUT;
 use crate::print::print_code;
 use crate::print::print_head;
 use crate::reading::read_code;
@@ -26,18 +29,12 @@ const IMAGE_NUMBER: u32 = 7;
 
 const LIMIT: i32 = 1000;
 
-const HALT: u8 = 0;
-
-const OUT: u8 = 2;
-
-const LDC: u8 = 10;
-
 // Where the first block has the instruction count, and the limit of the first instruction.
 const COUNT_AT: usize = 8;
 
 const LIMIT_AT: usize = 16;
 
-type Block = [u8; BLOCK];
+pub type Block = [u8; BLOCK];
 
 // A change that the line makes to a block.
 #[derive(Clone, Copy)]
@@ -164,8 +161,8 @@ fn print_trial(rt: &LibcRuntime, sent: &Block, trial: &Trial) -> Result<(), Faul
     print_reading(rt, &received)
 }
 
-// Writes a limit as an image, reads it back, and sends it over a line that disturbs it.
-pub fn deliver_limit(rt: &LibcRuntime) -> Result<(), Fault> {
+// Writes a limit as an image, reads it back, and sends it over a line that disturbs it. Gives the image.
+pub fn deliver_limit(rt: &LibcRuntime) -> Result<Block, Fault> {
     let code = limit_code(LIMIT);
     let mut block = [0; BLOCK];
     let _blocks = image::write(IMAGE_NUMBER, &code, &mut block)?;
@@ -177,5 +174,5 @@ pub fn deliver_limit(rt: &LibcRuntime) -> Result<(), Fault> {
     for trial in &TRIALS {
         print_trial(rt, &block, trial)?;
     }
-    Ok(())
+    Ok(block)
 }

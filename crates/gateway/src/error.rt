@@ -2,8 +2,13 @@ use crate::text::RefusalLine;
 use crate::text::RefusalLineDisplay;
 use refusal::Refusal;
 use std::alloc::AllocError;
+use std::alloc::Refused;
 use std::fmt;
 use std::io;
+
+const USAGE: &'static str =
+    "usage: gateway [show FILE | exec IMAGE --memory CELLS --grants N,N,.. [--readings V,V,..] [--log PLACES]]
+CELLS and PLACES are at most 1000000; without --log there are 1000 places.";
 
 // Why the program, or a part of it, gives up.
 #[derive(Drop)]
@@ -26,6 +31,12 @@ pub impl From<AllocError> for Fault as FaultFromAlloc {
     }
 }
 
+pub impl<T: Drop> From<Refused<T>> for Fault as FaultFromRefused {
+    fn from(refused: Refused<T>) -> Fault {
+        Fault::System(io::Error::from(AllocError::from(refused)))
+    }
+}
+
 pub impl From<Refusal> for Fault as FaultFromRefusal {
     fn from(refusal: Refusal) -> Fault {
         Fault::Refused(refusal)
@@ -35,7 +46,7 @@ pub impl From<Refusal> for Fault as FaultFromRefusal {
 pub impl fmt::Display for Fault as FaultDisplay {
     fn fmt<W: fmt::Write>(&self, f: &mut fmt::Formatter<W>) -> fmt::Result {
         match self {
-            Fault::Usage => write!(f, "usage: gateway [show FILE]"),
+            Fault::Usage => write!(f, "{USAGE}"),
             Fault::Unreadable(path, error) => write!(f, "cannot read {path}: {error}"),
             Fault::System(error) => write!(f, "{error}"),
             Fault::Refused(refusal) => {

@@ -1,40 +1,39 @@
+mod arguments;
+mod book;
 mod damage;
 mod deliver;
+mod ending;
 mod error;
+mod exec;
+mod neighbours;
+mod notes;
+mod ops;
 mod print;
 mod reading;
+mod script;
+mod serve;
 mod show;
 mod text;
+mod trace;
 
+use crate::arguments::Command;
+use crate::arguments::parse_command;
 use crate::deliver::deliver_limit;
 use crate::error::Fault;
 use crate::error::FaultDisplay;
 use crate::error::FaultFromIo;
+use crate::exec::exec_file;
+use crate::serve::serve_limit;
 use crate::show::show_file;
-use std::env;
-
-#[derive(Drop)]
-enum Command {
-    Deliver,
-    Show(String),
-}
-
-fn parse_command(rt: &LibcRuntime) -> Result<Command, Fault> {
-    let mut words = env::args(rt)?;
-    let _program = words.next();
-    let Some(word) = words.next() else {
-        return Ok(Command::Deliver);
-    };
-    match (words.next(), words.next()) {
-        (Some(path), None) if word.as_str() == "show" => Ok(Command::Show(path)),
-        _ => Err(Fault::Usage),
-    }
-}
 
 fn run(rt: &LibcRuntime) -> Result<(), Fault> {
     match parse_command(rt)? {
-        Command::Deliver => deliver_limit(rt),
+        Command::Deliver => {
+            let image = deliver_limit(rt)?;
+            serve_limit(rt, &image)
+        }
         Command::Show(path) => show_file(rt, path),
+        Command::Exec(plan) => exec_file(rt, plan),
     }
 }
 

@@ -11,7 +11,7 @@ use image::block_count;
 use machine::instruction::Instruction;
 use std::alloc::Global;
 
-const BLANK: Instruction = Instruction {
+pub const BLANK: Instruction = Instruction {
     op: 0,
     r: 0,
     s: 0,

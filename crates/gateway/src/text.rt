@@ -1,6 +1,12 @@
+use crate::book::Book;
+use crate::ops::DIV;
+use crate::trace::Event;
 use crc::is_sealed;
+use day::Reply;
 use image::Header;
 use image::header_at;
+use machine::Ran;
+use machine::Stop;
 use machine::instruction::Instruction;
 use refusal::Reason;
 use refusal::Refusal;
@@ -26,9 +32,6 @@ static MNEMONICS: [&'static str; 17] = [
     "JNE",
 ];
 
-// The ops up to DIV take three registers, the others a register and an address.
-const DIV: u8 = 6;
-
 fn mnemonic(op: u8) -> &'static str {
     MNEMONICS.get(op as usize).copied().unwrap_or("?")
 }
@@ -41,6 +44,7 @@ pub impl fmt::Display for Assembly as AssemblyDisplay {
     fn fmt<W: fmt::Write>(&self, f: &mut fmt::Formatter<W>) -> fmt::Result {
         let Instruction { op, r, s, t, d } = self.0;
         let name = mnemonic(op);
+        // the ops up to DIV take three registers, the others a register and an address
         if op <= DIV {
             write!(f, "{name:<4} {r},{s},{t}")
         } else {
@@ -153,5 +157,88 @@ pub impl fmt::Display for FourBytes<'_> as FourBytesDisplay {
             write!(f, " {byte:02x}")?;
         }
         Ok(())
+    }
+}
+
+pub impl fmt::Display for Event as EventDisplay {
+    fn fmt<W: fmt::Write>(&self, f: &mut fmt::Formatter<W>) -> fmt::Result {
+        match self {
+            Event::Took(v) => write!(f, "took {v}"),
+            Event::Put(v) => write!(f, "put {v}"),
+        }
+    }
+}
+
+// Why a run stopped, with the value where it was blocked.
+#[derive(Clone, Copy)]
+struct BlockedValue(Stop);
+
+impl fmt::Display for BlockedValue as BlockedValueDisplay {
+    fn fmt<W: fmt::Write>(&self, f: &mut fmt::Formatter<W>) -> fmt::Result {
+        match self.0 {
+            Stop::Blocked(v) => write!(f, ", value {v}"),
+            _ => Ok(()),
+        }
+    }
+}
+
+#[derive(Clone, Copy)]
+struct RanLine(Ran);
+
+impl fmt::Display for RanLine as RanLineDisplay {
+    fn fmt<W: fmt::Write>(&self, f: &mut fmt::Formatter<W>) -> fmt::Result {
+        let reason = self.0.stop.reason();
+        let steps = self.0.steps;
+        let value = BlockedValue(self.0.stop);
+        write!(f, "reason {reason} after {steps} steps{value}")
+    }
+}
+
+// What an order is answered, in the form that other tools read.
+#[derive(Clone, Copy)]
+pub struct ReplyLine(pub Reply);
+
+pub impl fmt::Display for ReplyLine as ReplyLineDisplay {
+    fn fmt<W: fmt::Write>(&self, f: &mut fmt::Formatter<W>) -> fmt::Result {
+        match self.0 {
+            Reply::Unfit => write!(f, "unfit"),
+            Reply::Loaded(count) => write!(f, "loaded {count}"),
+            Reply::Ran(ran) => {
+                let line = RanLine(ran);
+                write!(f, "{line}")
+            }
+            Reply::Restarted => write!(f, "restarted"),
+            Reply::Unloaded => write!(f, "unloaded"),
+            Reply::Refused(refusal) => {
+                let line = RefusalLine(refusal);
+                write!(f, "{line}")
+            }
+        }
+    }
+}
+
+// A day book, with the events of the day.
+#[derive(Clone, Copy)]
+pub struct BookLine<'e> {
+    pub book: Book,
+    pub events: &'e [Event],
+}
+
+pub impl fmt::Display for BookLine<'_> as BookLineDisplay {
+    fn fmt<W: fmt::Write>(&self, f: &mut fmt::Formatter<W>) -> fmt::Result {
+        let count = self.book.to.saturating_sub(self.book.from);
+        for event in self.events.iter().skip(self.book.from).take(count) {
+            write!(f, "{event}; ")?;
+        }
+        let steps = self.book.steps;
+        write!(f, "{steps} steps")?;
+        match self.book.last {
+            Some(stop) => {
+                let reason = stop.reason();
+                let value = BlockedValue(stop);
+                write!(f, "; last stop {reason}{value}")
+            }
+            None => Ok(()),
+        }
     }
 }
