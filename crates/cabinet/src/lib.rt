@@ -1,3 +1,5 @@
+#![tactic(auto)]
+
 ghost use Rattle.std.specs.Prelude.{◌≡◌, ◌<◌, ◌≤◌, [], length};
 ghost use Rattle.image.specs.Layout.{layout};
 ghost use Rattle.image.specs.Reading.{code_after};

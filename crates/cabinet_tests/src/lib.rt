@@ -1,4 +1,7 @@
 // Tests of the machine, the ports, the cabinet and the day. Every expected value is worked out by hand.
+
+#![tactic(auto)]
+
 #[cfg(test)]
 mod days;
 #[cfg(test)]

@@ -1,3 +1,5 @@
+#![tactic(auto)]
+
 ghost use Rattle.std.specs.Prelude.{◌≡◌, ◌+◌, ◌*◌, ◌%◌, ◌^◌, ◌<◌, length, codes, bit_xor, slice_index};
 ghost use Rattle.crc.specs.Crc.{feed, bits_of, crc, sealed, BurstDetected};
 

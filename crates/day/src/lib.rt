@@ -1,3 +1,5 @@
+#![tactic(auto)]
+
 ghost use Rattle.std.specs.Prelude.{◌≡◌, min};
 ghost use Rattle.day.specs.Answers.{answer, answer_by, answer_order};
 ghost use Rattle.day.specs.Day.{Worked};

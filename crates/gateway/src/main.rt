@@ -1,3 +1,5 @@
+#![tactic(auto)]
+
 mod arguments;
 mod book;
 mod damage;

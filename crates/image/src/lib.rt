@@ -1,3 +1,5 @@
+#![tactic(auto)]
+
 mod encode;
 mod layout;
 mod reader;

@@ -1,4 +1,7 @@
 // Tests of image::write and image::read. Every expected value is worked out by hand.
+
+#![tactic(auto)]
+
 #[cfg(test)]
 mod fields;
 #[cfg(test)]

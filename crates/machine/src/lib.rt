@@ -1,3 +1,5 @@
+#![tactic(auto)]
+
 pub mod grant;
 pub mod instruction;
 mod step;

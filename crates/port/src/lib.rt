@@ -1,3 +1,5 @@
+#![tactic(auto)]
+
 ghost use Rattle.port.specs.Ways.{Ways, Took, Offered};
 
 mod ceiling;

@@ -1,3 +1,5 @@
+#![tactic(auto)]
+
 ghost use Rattle.std.specs.Prelude.{◌≡◌, ◌+◌, ◌^◌, ◌<◌, min, length};
 ghost use Rattle.position.specs.Lines.{past_byte, Before, After, Stands};
 

@@ -1,3 +1,5 @@
+#![tactic(auto)]
+
 mod node;
 mod operator;
 mod spot;

@@ -1,3 +1,5 @@
+#![tactic(auto)]
+
 ghost use Rattle.std.specs.Prelude.{◌≡◌, pos, ◌*ℤ◌};
 ghost use Rattle.word.specs.Arithmetic.{word, sum, difference, product, quotient, less, Samples};
 
