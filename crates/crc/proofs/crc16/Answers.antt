@@ -5,7 +5,7 @@ use Rattle.crc.proofs.crc16.Goals as goal
 
 pub loop-byte-preserved : goal.loop-byte-preserved
 loop-byte-preserved c =
-    ap (feed (bits (drop (c.loop-byte.byte-index + 1) c.args.bytes.now))) c.with-byte-register.ensures
+    ap (feed (bits (drop (c.loop-byte.byte-index + 1) c.args.bytes.now))) c.with_byte-register.ensures
     ∙ sym (at_drop_more (λ l. feed (bits l) c.loop-byte.register) c.args.bytes.now c.loop-byte.byte-index 0 (omega arith))
     ∙ c.loop-byte.invariant
 

@@ -5,5 +5,5 @@ use Rattle.crc.proofs.is_sealed.Goals as goal
 
 pub returns : goal.returns
 returns c =
-    let bytes = All-from_get_or (λ b. b < 256) c.args.text.now 0 (λ i _. omega (arith, c.type-inv.text i)) in
+    let bytes = All-from_get_or (λ b. b < 256) c.args.text.now 0 (λ i _. omega (arith, c.type_inv.text i)) in
     record { value = search rules; burst = burst_detected c.args.text.now bytes }

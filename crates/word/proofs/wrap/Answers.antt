@@ -6,10 +6,10 @@ use Rattle.word.proofs.wrap.Goals as goal
 pub returns : goal.returns
 unfolding int_wrap
 returns c =
-    let result : SFits w32 c.cast-signed.result = search rules in
-    let rest : SFits w64 c.rem-euclid.result = search rules in
+    let result : SFits w32 c.cast_signed.result = search rules in
+    let rest : SFits w64 c.rem_euclid.result = search rules in
     cc (
-      to_z-of_z w32 c.cast-signed.result result,
-      to_z-of_z w64 c.rem-euclid.result rest,
+      to_z-of_z w32 c.cast_signed.result result,
+      to_z-of_z w64 c.rem_euclid.result rest,
       to_z-of_z w64 c.args.exact c.ranges.exact,
     )
