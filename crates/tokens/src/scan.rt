@@ -70,8 +70,8 @@ fn number_at<'a>(place: usize, s: &'a [u8]) -> Next<'a>
 }
 
 fn symbol_at<'a>(place: usize, s: &'a [u8]) -> Next<'a>
-    requires s_nonzero { (0 < length s.now) × (class (slice_index s.now 0) ≡ Class.Other) }
-    requires fact { Front (codes "/*") s.now → ⊥ }
+    requires other_first { (0 < length s.now) × (class (slice_index s.now 0) ≡ Class.Other) }
+    requires no_comment { Front (codes "/*") s.now → ⊥ }
     ensures { Stands place s.now result }
 {
     if let Some((mark, rest)) = double_symbol(s) {

@@ -21,7 +21,7 @@ loop-i-preserved c =
     let t = drop (i + 1) s in
     let here : drop i s ≡ a ∷ t = drop_more s i 0 (omega arith) in
     let no_mark : Front (codes "*/") (a ∷ t) → ⊥ =
-    subst (λ bs. Front (codes "*/") bs → ⊥) (take_rest s i ∙ here) c.in-default.ensures in (
+    subst (λ bs. Front (codes "*/") bs → ⊥) (take_rest s i ∙ here) c.in_default.ensures in (
       λ r e. c.loop-i.invariant.0 r (subst (λ bs. Ends bs r) (sym here) (ends_later a t no_mark r e)),
       λ u. c.loop-i.invariant.1 (subst Unclosed (sym here) (unclosed_later a t no_mark u)),
     )

@@ -3,14 +3,14 @@ use Rattle.std.proofs.lemmas.List.Sums.{prefix_len-drop_yes, prefix_len-drop_no,
 use Rattle.tokens.specs.Lexemes.{letter}
 use Rattle.tokens.proofs.bytes.leading_letters.Goals as goal
 
-pub returns-then-not-is-letter : goal.returns-then-not-is-letter
-returns-then-not-is-letter c =
-    let e = prefix_len-drop_no letter c.args.s.now c.loop-i.i 0 (omega arith) (sym c.if-not-is-letter.ensures) in
+pub returns-then-not-is_letter : goal.returns-then-not-is_letter
+returns-then-not-is_letter c =
+    let e = prefix_len-drop_no letter c.args.s.now c.loop-i.i 0 (omega arith) (sym c.if-not-is_letter.ensures) in
     record { value = omega (arith, c.loop-i.invariant); within = omega arith }
 
 pub loop-i-preserved : goal.loop-i-preserved
 loop-i-preserved c =
-    let e = prefix_len-drop_yes letter c.args.s.now c.loop-i.i 0 (omega arith) (sym c.if-not-is-letter.ensures) in
+    let e = prefix_len-drop_yes letter c.args.s.now c.loop-i.i 0 (omega arith) (sym c.if-not-is_letter.ensures) in
     omega (arith, c.loop-i.invariant)
 
 pub returns : goal.returns

@@ -21,6 +21,6 @@ loop-token-smaller c = skips_shorter c.in-Gap.ensures
 pub loop-token-preserved : goal.loop-token-preserved
 loop-token-preserved c = filling_gap c.loop-token.invariant c.in-Gap.ensures
 
-pub returns-in-default : goal.returns-in-default
-returns-in-default c =
-    filled_all c.loop-token.invariant c.next-at.result c.next-at.ensures c.in-default.not-Token c.in-default.not-Gap
+pub returns-in_default : goal.returns-in_default
+returns-in_default c =
+    filled_all c.loop-token.invariant c.next_at.result c.next_at.ensures c.in_default.not-Token c.in_default.not-Gap

@@ -4,4 +4,4 @@ use Rattle.tokens.proofs.Samples.{samples}
 use Rattle.tokens.proofs.lexer.lex.Goals as goal
 
 pub returns : goal.returns
-returns c = record { result = c.lex-source.ensures; unique = unique; rising = rising; samples = samples }
+returns c = record { result = c.lex_source.ensures; unique = unique; rising = rising; samples = samples }

@@ -27,20 +27,20 @@ loop-after-preserved-in-Gap c = surveying_gap c.loop-after.invariant c.in-Gap.en
 pub bounds-rest-0 : goal.bounds-rest-0
 bounds-rest-0 c = let h = less (goal.at.bounds-rest-0 c).In-Token in omega arith
 
-pub overflow-sub-source : goal.overflow-sub-source
-overflow-sub-source c = let h = less (goal.at.overflow-sub-source c).In-Token in omega (arith, c.loop-after.invariant.room)
+pub overflow_sub-source : goal.overflow_sub-source
+overflow_sub-source c = let h = less (goal.at.overflow_sub-source c).In-Token in omega (arith, c.loop-after.invariant.room)
 
-pub joined-to-requires : goal.joined-to-requires
-joined-to-requires c =
-    let h = less (goal.at.joined-to-requires c).In-Token in omega (arith, c.loop-after.invariant.room)
+pub joined_to-requires : goal.joined_to-requires
+joined_to-requires c =
+    let h = less (goal.at.joined_to-requires c).In-Token in omega (arith, c.loop-after.invariant.room)
 
-pub returns-in-err-seen : goal.returns-in-err-seen
-returns-in-err-seen c =
-    let p = err_from_is_err_and c.from-residual.result c.from-residual.ensures.1 in
+pub returns-in_err-seen-in-Token : goal.returns-in_err-seen-in-Token
+returns-in_err-seen-in-Token c =
+    let p = err_from_is_err_and c.from_residual.result c.from_residual.ensures.1 in
     let (leads, small) = c.in-Token.ensures in
     rw (p.1, p.2)
-    (survey_refuses c.loop-after.invariant leads small c.class-of-class.result c.class-of-class.ensures
-    c.in-err-seen.field-0.0 c.in-err-seen.ensures)
+    (survey_refuses c.loop-after.invariant leads small c.class_of-class.result c.class_of-class.ensures
+    c.in_err-seen-in-Token.field-0.0 c.in_err-seen-in-Token.ensures)
 
 pub loop-after-smaller : goal.loop-after-smaller
 loop-after-smaller c = less (goal.at.loop-after-smaller c).In-Token
@@ -48,8 +48,8 @@ loop-after-smaller c = less (goal.at.loop-after-smaller c).In-Token
 pub loop-after-preserved : goal.loop-after-preserved
 loop-after-preserved c =
     let (leads, small) = c.in-Token.ensures in
-    survey_goes_on c.loop-after.invariant leads small c.class-of-class.result c.class-of-class.ensures
-    c.in-ok-seen.seen c.in-ok-seen.ensures
+    survey_goes_on c.loop-after.invariant leads small c.class_of-class.result c.class_of-class.ensures
+    c.in_ok-seen-in-Token.seen c.in_ok-seen-in-Token.ensures
 
 pub returns-in-TooLarge : goal.returns-in-TooLarge
 returns-in-TooLarge c =

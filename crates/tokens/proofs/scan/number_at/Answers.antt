@@ -7,35 +7,35 @@ use Rattle.tokens.specs.Scanning.{Leads}
 use Rattle.tokens.proofs.Numbers.{limited_some, limited_none}
 use Rattle.tokens.proofs.Standing.{all_digits, number_leads}
 use Rattle.tokens.proofs.scan.number_at.Goals as goal
-use Rattle.tokens.proofs.scan.number_at.Goals.{After-split-at}
+use Rattle.tokens.proofs.scan.number_at.Goals.{After-split_at}
 
-run : (c : After-split-at) → c.split-at.result.0.now ≡ take (prefix_len digit c.args.s.now) c.args.s.now
-run c = c.split-at.ensures.front ∙ ap (λ n. take n c.args.s.now) c.leading-digits.ensures.value
+run : (c : After-split_at) → c.split_at.result.0.now ≡ take (prefix_len digit c.args.s.now) c.args.s.now
+run c = c.split_at.ensures.front ∙ ap (λ n. take n c.args.s.now) c.leading_digits.ensures.value
 
-leads : (c : After-split-at) (n : ℕ) → n ≡ decimal c.split-at.result.0.now
-    → Leads c.args.place c.args.s.now c.split-at.result.1.now (number c.args.place n)
+leads : (c : After-split_at) (n : ℕ) → n ≡ decimal c.split_at.result.0.now
+    → Leads c.args.place c.args.s.now c.split_at.result.1.now (number c.args.place n)
 leads c n e =
-    number_leads c.args.place c.args.s.now c.split-at.result.0.now c.split-at.result.1.now c.requires.0
-    c.split-at.ensures.by_index.0 c.requires.1 (run c) n e
+    number_leads c.args.place c.args.s.now c.split_at.result.0.now c.split_at.result.1.now c.requires.0
+    c.split_at.ensures.by_index.0 c.requires.1 (run c) n e
 
-pub value-of-requires : goal.value-of-requires
-value-of-requires c =
-    (all_digits c.args.place c.args.s.now c.split-at.result.0.now c.split-at.result.1.now c.requires.0
-    c.split-at.ensures.by_index.0 c.requires.1 (run (goal.at.value-of-requires c).After-split-at)).1
+pub value_of-requires : goal.value_of-requires
+value_of-requires c =
+    (all_digits c.args.place c.args.s.now c.split_at.result.0.now c.split_at.result.1.now c.requires.0
+    c.split_at.ensures.by_index.0 c.requires.1 (run (goal.at.value_of-requires c).After-split_at)).1
 
 pub returns-in-Some : goal.returns-in-Some
 returns-in-Some c =
     let value = c.in-Some.value in
-    let fits = limited_some (decimal c.split-at.result.0.now) value c.in-Some.ensures in (
-      leads (goal.at.returns-in-Some c).After-split-at value fits.1,
+    let fits = limited_some (decimal c.split_at.result.0.now) value c.in-Some.ensures in (
+      leads (goal.at.returns-in-Some c).After-split_at value fits.1,
       le-ltb 2147483647 value (omega (arith, fits.0, fits.1)),
     )
 
 pub returns-in-None : goal.returns-in-None
 returns-in-None c =
-    let value = decimal c.split-at.result.0.now in (
-      c.split-at.result.1.now,
+    let value = decimal c.split_at.result.0.now in (
+      c.split_at.result.1.now,
       number c.args.place value,
-      leads (goal.at.returns-in-None c).After-split-at value refl,
+      leads (goal.at.returns-in-None c).After-split_at value refl,
       lt-ltb 2147483647 value (limited_none value c.in-None.ensures),
     )

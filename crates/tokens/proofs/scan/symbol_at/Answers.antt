@@ -12,15 +12,15 @@ returns-in-Some c =
     let a = get_or bs 0 0 in
     let b = get_or bs 1 0 in
     let whole : bs ≡ a ∷ b ∷ c.in-Some.rest.now = two_front bs two ∙ ap (λ r. a ∷ b ∷ r) (sym tail) in
-    (double_leads c.args.place bs c.requires.0.1 c.requires.1 (a ∷ b ∷ []) c.in-Some.mark spelt whole refl, refl)
+    (double_leads c.args.place bs c.requires.other_first.1 c.requires.no_comment (a ∷ b ∷ []) c.in-Some.mark spelt whole refl, refl)
 
-pub returns-in-Some-single-symbol : goal.returns-in-Some-single-symbol
-returns-in-Some-single-symbol c =
+pub returns-in-Some-single_symbol : goal.returns-in-Some-single_symbol
+returns-in-Some-single_symbol c =
     let bs = c.args.s.now in
-    let spelt = c.in-Some-single-symbol.ensures in
-    let whole = one_front bs c.requires.0.0 in (
-      single_leads c.args.place bs c.requires.0.1 c.requires.1 (get_or bs 0 0 ∷ []) c.in-Some-single-symbol.mark spelt whole
-          c.in-default.ensures refl,
+    let spelt = c.in-Some-single_symbol.ensures in
+    let whole = one_front bs c.requires.other_first.0 in (
+      single_leads c.args.place bs c.requires.other_first.1 c.requires.no_comment (get_or bs 0 0 ∷ []) c.in-Some-single_symbol.mark spelt whole
+          c.in_default.ensures refl,
       refl,
     )
 
@@ -28,7 +28,7 @@ pub returns-in-None : goal.returns-in-None
 returns-in-None c =
     let bs = c.args.s.now in
     let b = get_or bs 0 0 in
-    let k = c.requires.0.1 in
-    let whole = one_front bs c.requires.0.0 in
+    let k = c.requires.other_first.1 in
+    let whole = one_front bs c.requires.other_first.0 in
     let one = no_singles c.args.place bs k b (rest 1 bs) whole c.in-None.ensures in
-    no_token c.args.place bs k b (rest 1 bs) whole (class_not_white b k) c.in-default.ensures one
+    no_token c.args.place bs k b (rest 1 bs) whole (class_not_white b k) c.in_default.ensures one

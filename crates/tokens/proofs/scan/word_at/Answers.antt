@@ -3,27 +3,27 @@ use Rattle.std.specs.List.{prefix_len}
 use Rattle.tokens.specs.Lexemes.{letter}
 use Rattle.tokens.proofs.Standing.{keyword_leads, name_leads}
 use Rattle.tokens.proofs.scan.word_at.Goals as goal
-use Rattle.tokens.proofs.scan.word_at.Goals.{After-split-at}
+use Rattle.tokens.proofs.scan.word_at.Goals.{After-split_at}
 
-run : (c : After-split-at) → c.split-at.result.0.now ≡ take (prefix_len letter c.args.s.now) c.args.s.now
-run c = c.split-at.ensures.front ∙ ap (λ n. take n c.args.s.now) c.leading-letters.ensures.value
+run : (c : After-split_at) → c.split_at.result.0.now ≡ take (prefix_len letter c.args.s.now) c.args.s.now
+run c = c.split_at.ensures.front ∙ ap (λ n. take n c.args.s.now) c.leading_letters.ensures.value
 
 pub returns-in-Some : goal.returns-in-Some
 returns-in-Some c =
-    let word = c.split-at.result.0.now in
-    let rest = c.split-at.result.1.now in
-    let is = run (goal.at.returns-in-Some c).After-split-at in (
-      keyword_leads c.args.place c.args.s.now word rest c.requires.0 c.split-at.ensures.by_index.0 c.requires.1 is
+    let word = c.split_at.result.0.now in
+    let rest = c.split_at.result.1.now in
+    let is = run (goal.at.returns-in-Some c).After-split_at in (
+      keyword_leads c.args.place c.args.s.now word rest c.requires.0 c.split_at.ensures.by_index.0 c.requires.1 is
           c.in-Some.mark c.in-Some.ensures,
       refl,
     )
 
 pub returns-in-None : goal.returns-in-None
 returns-in-None c =
-    let word = c.split-at.result.0.now in
-    let rest = c.split-at.result.1.now in
-    let is = run (goal.at.returns-in-None c).After-split-at in (
-      name_leads c.args.place c.args.s.now word rest c.requires.0 c.split-at.ensures.by_index.0 c.requires.1 is
+    let word = c.split_at.result.0.now in
+    let rest = c.split_at.result.1.now in
+    let is = run (goal.at.returns-in-None c).After-split_at in (
+      name_leads c.args.place c.args.s.now word rest c.requires.0 c.split_at.ensures.by_index.0 c.requires.1 is
           c.in-None.ensures,
       refl,
     )
