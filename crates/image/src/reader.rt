@@ -156,9 +156,9 @@ fn decode_part(bytes: &[u8], part: &mut [Instruction])
 }
 
 fn decode_blocks(image: &[u8], blocks: usize, code: &mut [Instruction])
-    requires image_len { (length image.now ≡ 512 * blocks) × (blocks ≤ 794) }
-    requires image_value { first_fault layout (four_at image.now 0) blocks 0 blocks image.now ≡ None }
-    requires image_in_bounds { length (content layout blocks image.now) ≤ length code.old }
+    requires whole { (length image.now ≡ 512 * blocks) × (blocks ≤ 794) }
+    requires clean { first_fault layout (four_at image.now 0) blocks 0 blocks image.now ≡ None }
+    requires room { length (content layout blocks image.now) ≤ length code.old }
     ensures { code.new ≡ content layout blocks image.now ++ drop (length (content layout blocks image.now)) code.old }
 {
     let mut at = 0;

@@ -11,8 +11,8 @@ use Rattle.image.proofs.encode.encode_part.Goals as goal
 pub loop-k-preserved : goal.loop-k-preserved
 loop-k-preserved c =
     let k = c.loop-k.k in
-    let piece = c.copy-from-slice.new.self in
-    let made : piece ≡ encode (get_or c.args.part.now k blank) = c.copy-from-slice.ensures.after ∙ c.encoded.ensures in
+    let piece = c.copy_from_slice.new.self in
+    let made : piece ≡ encode (get_or c.args.part.now k blank) = c.copy_from_slice.ensures.after ∙ c.encoded.ensures in
     let long : length piece ≡ 8 = ap length made in
     let front : take (8 * (k + 1)) (put_mid (8 * k) (8 * (k + 1) - 8 * k) c.loop-k.bytes piece) ≡ take (8 * k) c.loop-k.bytes ++ piece =
     take-put_mid (8 * k) (8 * (k + 1) - 8 * k) c.loop-k.bytes piece (8 * (k + 1)) (omega arith) (omega arith) in

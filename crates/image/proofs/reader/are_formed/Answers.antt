@@ -17,12 +17,12 @@ step bytes count k i b h e f =
     ap (all formed) (instructions_next layout count k bytes h)
     ∙ ap (λ x. x && all formed (instructions layout (count - (k + 1)) (drop (8 * (k + 1)) bytes))) (ap formed here ∙ sym f)
 
-pub returns-then-not-has-form : goal.returns-then-not-has-form
-returns-then-not-has-form c =
+pub returns-then-not-has_form : goal.returns-then-not-has_form
+returns-then-not-has_form c =
     sym (step c.args.bytes.now c.args.count c.loop-k.k c.decoded.result false
-    (omega arith) c.decoded.ensures c.if-not-has-form.ensures) ∙ c.loop-k.invariant
+    (omega arith) c.decoded.ensures c.if-not-has_form.ensures) ∙ c.loop-k.invariant
 
 pub loop-k-preserved : goal.loop-k-preserved
 loop-k-preserved c =
     sym (step c.args.bytes.now c.args.count c.loop-k.k c.decoded.result true
-    (omega arith) c.decoded.ensures c.if-not-has-form.ensures) ∙ c.loop-k.invariant
+    (omega arith) c.decoded.ensures c.if-not-has_form.ensures) ∙ c.loop-k.invariant

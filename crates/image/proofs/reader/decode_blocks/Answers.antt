@@ -49,21 +49,21 @@ module _ (image : List ℕ) (blocks index at n : ℕ) (code part : List Instruct
   back : (m : ℕ) → at + n ≤ m → drop m (put_mid at (at + n - at) code part) ≡ drop m code
   back m h = let size = length_part in drop-put_mid at (at + n - at) code part m (omega arith) (omega arith) (omega arith)
 
-pub slice-bounds-decode-part-end-in-loop-index : goal.slice-bounds-decode-part-end-in-loop-index
-slice-bounds-decode-part-end-in-loop-index c =
+pub slice_bounds-decode_part-end-in-loop-index : goal.slice_bounds-decode_part-end-in-loop-index
+slice_bounds-decode_part-end-in-loop-index c =
     (within c.args.image.now c.args.blocks c.loop-index.index c.loop-index.at (length c.loop-index.code)
-    c.loop-index-test.true c.loop-index.invariant.0 (omega (arith, c.loop-index.invariant.2, c.requires.2))).1
+    c.loop-index-test.true c.loop-index.invariant.0 (omega (arith, c.loop-index.invariant.2, c.requires.room))).1
 
-pub decode-part-requires : goal.decode-part-requires
-decode-part-requires c =
+pub decode_part-requires : goal.decode_part-requires
+decode_part-requires c =
     let image = c.args.image.now in
     let index = c.loop-index.index in
     let code = c.loop-index.code in
     let at = c.loop-index.at in
     let n = get_or (piece layout (four_at image 0) c.args.blocks image index c.loop-index-test.true) 8 0 in
     let small = within image c.args.blocks index at (length code)
-    c.loop-index-test.true c.loop-index.invariant.0 (omega (arith, c.loop-index.invariant.2, c.requires.2)) in
-    let body = length_body layout (four_at image 0) c.args.blocks image index c.loop-index-test.true c.requires.0.0 in
+    c.loop-index-test.true c.loop-index.invariant.0 (omega (arith, c.loop-index.invariant.2, c.requires.room)) in
+    let body = length_body layout (four_at image 0) c.args.blocks image index c.loop-index-test.true c.requires.whole.0 in
     let part = length-take (at + n - at) (drop at code) in
     omega (arith, small.0)
 
@@ -76,16 +76,16 @@ loop-index-preserved c =
     let inside : index < blocks = c.loop-index-test.true in
     let code = c.loop-index.code in
     let at = c.loop-index.at in
-    let part : List Instruction = c.decode-part.new.part in
+    let part : List Instruction = c.decode_part.new.part in
     let n = get_or (piece layout number blocks image index inside) 8 0 in
     let clean = scan_clean layout number blocks image index inside c.loop-index.invariant.0 in
-    let fits = (within image blocks index at (length code) inside c.loop-index.invariant.0 (omega (arith, c.loop-index.invariant.2, c.requires.2))).1 in
+    let fits = (within image blocks index at (length code) inside c.loop-index.invariant.0 (omega (arith, c.loop-index.invariant.2, c.requires.room))).1 in
     let more = counted layout number blocks image index inside in
     let same : n ≡ get_or (here layout number blocks image index inside) 8 0 = ap (λ xs. get_or xs 8 0) (is_piece layout number blocks image index inside) in (
       sym (onward layout number blocks image index inside clean) ∙ c.loop-index.invariant.0,
-      front image blocks index at n code part inside refl fits c.decode-part.ensures c.requires.0.0 ∙ c.loop-index.invariant.1,
+      front image blocks index at n code part inside refl fits c.decode_part.ensures c.requires.whole.0 ∙ c.loop-index.invariant.1,
       omega (arith, c.loop-index.invariant.2, more, same),
-      back image blocks index at n code part inside refl fits c.decode-part.ensures _ (omega (arith, c.loop-index.invariant.2, more, same)) ∙ c.loop-index.invariant.3,
+      back image blocks index at n code part inside refl fits c.decode_part.ensures _ (omega (arith, c.loop-index.invariant.2, more, same)) ∙ c.loop-index.invariant.3,
     )
 
 pub returns : goal.returns

@@ -8,5 +8,5 @@ pub returns : goal.returns
 returns c =
     let image = c.args.image.now in
     let index = c.args.index in
-    ap Some (c.decoded-header.ensures ∙ ap header_of (row_cut image 512 index))
+    ap Some (c.decoded_header.ensures ∙ ap header_of (row_cut image 512 index))
     ∙ cond_below index (length image / 512) (Some (header_of (take 512 (drop (512 * index) image)))) None (omega arith)

@@ -19,12 +19,12 @@ body block count a b long e p q =
     ap (λ x. x && b) p' ∙ ap (λ x. all formed (instructions layout count (drop 12 block)) && x) q'
     ∙ ap (λ n. all formed (instructions layout n (drop 12 block)) && all_zero (drop (12 + 8 * n) (take 510 block))) e
 
-pub returns-then-are-formed : goal.returns-then-are-formed
-returns-then-are-formed c =
-    body c.args.block.now c.args.count true c.are-zero.result c.requires.0 c.requires.1.1
-    c.if-are-formed.ensures c.are-zero.ensures
+pub returns-then-are_formed : goal.returns-then-are_formed
+returns-then-are_formed c =
+    body c.args.block.now c.args.count true c.are_zero.result c.requires.0 c.requires.1.1
+    c.if-are_formed.ensures c.are_zero.ensures
 
-pub returns-else-are-formed : goal.returns-else-are-formed
-returns-else-are-formed c =
-    c.if-are-formed.false
-    ∙ body c.args.block.now c.args.count false _ c.requires.0 c.requires.1.1 c.if-are-formed.ensures refl
+pub returns-else-are_formed : goal.returns-else-are_formed
+returns-else-are_formed c =
+    c.if-are_formed.false
+    ∙ body c.args.block.now c.args.count false _ c.requires.0 c.requires.1.1 c.if-are_formed.ensures refl

@@ -16,10 +16,10 @@ loop-index-preserved c =
     let code = c.args.code.now in
     let index = c.loop-index.index in
     let store = c.loop-index.store in
-    let bytes : List ℕ = c.encode-block.new.bytes in
+    let bytes : List ℕ = c.encode_block.new.bytes in
     let part : List _ = take 62 (drop (62 * index) code) in
     let made : bytes ≡ block layout number index blocks part =
-    c.encode-block.ensures
+    c.encode_block.ensures
     ∙ ap (λ n. block layout number index blocks (take (n - 62 * index) (drop (62 * index) code))) c.min-to.ensures
     ∙ ap (block layout number index blocks) (row code (62 * index) 62) in
     let long : length bytes ≡ 512 = ap length made ∙ length_block layout sound number index blocks part (let n = length-take 62 (drop (62 * index) code) in omega arith) in
