@@ -1,5 +1,5 @@
 -- One step of the register is linear over the exclusive or, and from an even result it can be taken back.
-use Rattle.std.proofs.Common.{◌≡◌, ℕ, zero, suc, ◌+◌, ◌*◌, ◌/◌, ◌%◌, ◌^◌, ◌<◌, sym, refl, ap, ◌∙◌, add-zero, arith}
+use Rattle.std.proofs.Common.{◌≡◌, ℕ, zero, suc, ◌+◌, ◌*◌, ◌/◌, ◌%◌, ◌^◌, ◌<◌, sym, refl, ◌∙◌, add-zero, arith}
 use native.Mathlib.Nat.{mul-mod_left}
 use lib.Bits.{bit_xor, xor_shr, xor_mod, xor_block, xor_assoc, xor_comm, xor_self, xor_lt, xor_zero_r, xor_zero_l}
 use Rattle.std.proofs.lemmas.Nat.{mod-pow-add, shl-shr}

@@ -1,20 +1,19 @@
 -- A block that was made for a part is right and holds that part; a right block is the one that is made for its part.
-use Rattle.std.proofs.Common.{◌≡◌, ℕ, zero, suc, ◌+◌, ◌-◌, ◌*◌, ◌/◌, ◌%◌, ◌^◌, ◌<◌, ◌≤◌, Bool, true, false, cond, ◌&&◌, eqb, ltb, leb, List, [], ◌∷◌, ◌++◌, length, get_or, take, drop, None, sym, refl, ap, ◌∙◌, subst, inl, inr, mul-zero, mul-suc, arith, length-append, length-drop, take-add}
-use lib.ListN.{length-replicate}
+use Rattle.std.proofs.Common.{◌≡◌, ℕ, zero, suc, ◌+◌, ◌-◌, ◌*◌, ◌/◌, ◌%◌, ◌^◌, ◌<◌, ◌≤◌, true, eqb, ltb, leb, List, [], ◌∷◌, ◌++◌, length, get_or, take, drop, None, sym, refl, ap, ◌∙◌, inl, inr, mul-zero, mul-suc, arith, length-drop, take-add}
 use Rattle.std.specs.List.{flat_map, AllByRecursion as All}
-use Rattle.std.proofs.lemmas.List.{append_assoc, append-nil, take_at, drop_at, take_all, take-take, drop_more, take-append-drop, length-take-le, drop-take, drop-drop}
-use Rattle.std.proofs.lemmas.Bool.{and_parts, and_from, eq-eqb, le-leb, lt-ltb, le-ltb, eqb-true, leb-true, cases_lt, cond-true, cond-false}
+use Rattle.std.proofs.lemmas.List.{append_assoc, take_at, drop_at, take_all, take-take, take-append-drop, length-take-le, drop-take, drop-drop}
+use Rattle.std.proofs.lemmas.Bool.{and_parts, and_from, eq-eqb, le-leb, lt-ltb, le-ltb, eqb-true, cases_lt, cond-true, cond-false}
 use Rattle.std.proofs.ByRecursion.{All-get_or, All-take, All-drop}
 use Rattle.crc.specs.Crc.{crc, sealed, Bytes}
 use Rattle.crc.proofs.Burst.{crc_fits, sealed_with}
 use Rattle.image.specs.Layout.{Layout}
-use Rattle.image.specs.Blocks.{two, four, zeros, header, covered, block}
-use Rattle.image.specs.Reading.{two_at, four_at, all, all_zero, instructions, count_right, header_right, body_right, fault}
+use Rattle.image.specs.Blocks.{two, zeros, header, covered, block}
+use Rattle.image.specs.Reading.{all, all_zero, instructions, count_right, header_right, body_right, fault}
 use Rattle.image.proofs.Numbers.{two_whole, four_whole, bytes_of_two, bytes_of_four, stand_at}
 use Rattle.image.proofs.Pieces.{length_joined}
-use Rattle.image.proofs.Sound.{Sound, part_fits, length_covered, length_block}
+use Rattle.image.proofs.Sound.{Sound, part_fits, length_covered}
 use Rattle.image.proofs.Walks.{length_instructions}
-use Rattle.image.proofs.Faults.{Count, Header, header_parts, right_parts, fault_is}
+use Rattle.image.proofs.Faults.{Header, header_parts, right_parts, fault_is}
 
 -- zeros
 

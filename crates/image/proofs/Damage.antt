@@ -1,8 +1,7 @@
 -- A change within sixteen successive bits of one block of a faultless image is found at that block.
-use Rattle.std.proofs.Common.{◌≡◌, ℕ, zero, suc, ◌+◌, ◌-◌, ◌*◌, ◌/◌, ◌<◌, ◌≤◌, true, false, cond, leb, List, length, take, drop, Some, None, Ok, Err, sym, refl, ap, ◌∙◌, subst, inl, inr, add-one, arith}
+use Rattle.std.proofs.Common.{◌≡◌, ℕ, zero, suc, ◌+◌, ◌-◌, ◌*◌, ◌/◌, ◌<◌, ◌≤◌, false, cond, leb, List, length, take, drop, Some, None, Ok, Err, sym, refl, ap, ◌∙◌, add-one, arith}
 use Rattle.std.proofs.ByRecursion.{All-take, All-drop}
 use Rattle.std.proofs.lemmas.List.{drop-take, take-take}
-use Rattle.std.proofs.lemmas.Bool.{cases_lt}
 use Rattle.refusal.specs.declared.Refusal.{Refusal}
 use Rattle.refusal.specs.declared.Reason.TheVariants.{BlockCheck, CodeStoreTooShort}
 use Rattle.crc.specs.Crc.{sealed, Bytes}
@@ -11,7 +10,6 @@ use Rattle.image.specs.Layout.{Layout}
 use Rattle.image.specs.Writing.{refusal}
 use Rattle.image.specs.Reading.{four_at, header_right, body_right, or_else, unless, fault, first_fault, length_fault, image_fault, code_of, read_reply}
 use Rattle.image.specs.Laws.{Damaged, DamageFound}
-use Rattle.image.proofs.Sound.{Sound}
 use Rattle.image.proofs.Walks.{first_fault_next}
 use Rattle.image.proofs.Faults.{fault_is, right_parts, or_else_none}
 use Rattle.image.proofs.ImageForm.{same_four}

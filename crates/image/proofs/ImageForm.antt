@@ -1,17 +1,16 @@
 -- The image of a code reads back as that code; a faultless image is the image of the code that it holds.
-use Rattle.std.proofs.Common.{◌≡◌, ℕ, zero, suc, ◌+◌, ◌-◌, ◌*◌, ◌/◌, ◌%◌, ◌^◌, ◌<◌, ◌≤◌, min, Bool, true, false, cond, ◌&&◌, eqb, leb, ◌⊎◌, List, [], ◌∷◌, ◌++◌, length, get_or, take, drop, IfOk, Some, None, Ok, Err, Option, Result, sym, refl, ap, ◌∙◌, subst, inl, inr, mul_comm, mul-zero, mul-suc, arith, length-append, length-drop, length-take}
+use Rattle.std.proofs.Common.{◌≡◌, ℕ, zero, suc, ◌+◌, ◌-◌, ◌*◌, ◌/◌, ◌%◌, ◌^◌, ◌<◌, ◌≤◌, Bool, true, false, cond, ◌&&◌, eqb, leb, ◌⊎◌, List, [], ◌∷◌, ◌++◌, length, get_or, take, drop, IfOk, Some, None, Ok, Err, Option, Result, sym, refl, ap, ◌∙◌, subst, inl, inr, mul_comm, mul-zero, mul-suc, arith, length-append, length-drop, length-take}
 use Rattle.std.specs.List.{AllByRecursion as All}
 use Rattle.std.proofs.lemmas.Nat.{div-mul-add, div-add-mod', mod_below, mul-le}
 use Rattle.std.proofs.ByRecursion.{All-take, All-drop}
 use Rattle.std.proofs.lemmas.List.{append-nil, take_at, drop_at, take_all, drop_all, take-append-drop, length-take-le, get_or-take, nil_from_length}
 use Rattle.std.proofs.lemmas.Bool.{and_parts, and_from, eq-eqb, le-leb, leb-true, eqb-true, cases_lt, cases_Bool, cond-true, cond-false}
-use Rattle.std.specs.Vec as vec
 use Rattle.refusal.specs.declared.Refusal.{Refusal}
 use Rattle.crc.specs.Crc.{Bytes}
 use Rattle.image.specs.Layout.{Layout, layout}
 use Rattle.image.specs.Blocks.{block, blocks_from, blocks_for, image}
 use Rattle.image.specs.Writing.{leading, write_reply, store_after}
-use Rattle.image.specs.Reading.{two_at, four_at, all, instructions, or_else, fault, first_fault, content, length_fault, image_fault, code_of, unless, read_reply, code_after}
+use Rattle.image.specs.Reading.{four_at, all, instructions, or_else, fault, first_fault, content, length_fault, image_fault, code_of, unless, read_reply, code_after}
 use Rattle.image.specs.Laws.{ReadsAs, WrittenAs, SixtyThree}
 use Rattle.image.proofs.Sound.{Sound, length_block}
 use Rattle.image.proofs.Walks.{length_instructions}

@@ -1,10 +1,10 @@
-use Rattle.std.proofs.Common.{◌≡◌, ℕ, ◌+◌, ◌-◌, ◌*◌, ◌^◌, ◌<◌, ◌≤◌, Bool, true, List, [], ◌∷◌, ◌++◌, length, sym, refl, ap, ◌∙◌, mul-le-mul_left, arith, length-append}
+use Rattle.std.proofs.Common.{◌≡◌, ℕ, ◌+◌, ◌-◌, ◌*◌, ◌<◌, ◌≤◌, List, ◌++◌, length, ap, ◌∙◌, arith, length-append}
 use lib.ListN.{length-replicate}
 use Rattle.std.specs.List.{flat_map}
 use Rattle.std.proofs.lemmas.Nat.{mul-le}
 use Rattle.crc.specs.Crc.{Bytes}
 use Rattle.image.specs.Layout.{Layout}
-use Rattle.image.specs.Blocks.{zeros, covered, block, header}
+use Rattle.image.specs.Blocks.{zeros, covered, block}
 use Rattle.image.proofs.Pieces.{length_joined}
 
 -- What the argument asks of a layout; every edition of the block has it.

@@ -4,8 +4,7 @@ use native.Mathlib.Decide.{dec_lt}
 use Rattle.std.proofs.lemmas.List.{get_or_append_left, get_or_push, length_push, length-take-le, length-drop, take_more, get_or-take, get_or-drop}
 use Rattle.std.proofs.lemmas.Bool.{eqb-true, eqb-false}
 use Rattle.position.specs.declared.Line.{Line}
-use Rattle.position.specs.declared.Position.{Position}
-use Rattle.position.specs.Lines.{line_ends, Unbroken, Stands, Before, After, past_byte}
+use Rattle.position.specs.Lines.{line_ends, Stands, Before, After, past_byte}
 
 lt_or_le : (m n : ℕ) → (m < n) ⊎ (n ≤ m)
 lt_or_le m n = elim (dec_lt m n) [ yes h ↦ inl h | no h ↦ inr (omega (arith, h)) ]

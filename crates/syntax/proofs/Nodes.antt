@@ -1,11 +1,11 @@
 -- Nodes that are added leave the trees of the nodes before them.
 use mathlib.Core.Path.{◌≡◌, refl, sym, ap, subst, ◌∙◌}
 use mathlib.Core.Logic.{◌≢◌, ⊎_elim}
-use mathlib.Core.List.{List, [], ◌∷◌}
+use mathlib.Core.List.{List, ◌∷◌}
 use Prim.Native.Nat.{ℕ, suc, zero, ◌-◌, ◌+◌, ◌<◌, ◌≤◌}
 use native.Mathlib.Omega.{arith}
 use native.Mathlib.Nat.{eq-or-lt_of_le}
-use lib.ListN.{length, get_or, set}
+use lib.ListN.{length, set}
 use lib.Seq.{get_or-set_same, get_or-set_other}
 use Rattle.syntax.specs.declared.node.Node.{Node}
 use Rattle.syntax.specs.declared.node.Node.TheVariants.{Nothing, Literal, Variable, Element, Paren, Binary, Assign, AssignElement, Call, Argument, Empty, Expression, Compound, If, IfElse, While, Return, ReturnValue, Statement, Block, NumberLocal, ArrayLocal, NumberParam, ArrayParam, NumberGlobal, ArrayGlobal, Function}

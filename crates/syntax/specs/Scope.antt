@@ -7,7 +7,7 @@ use Rattle.syntax.specs.declared.spot.Home.TheVariants.{Global, Local}
 use Rattle.syntax.specs.declared.spot.Spot.{Spot}
 use Rattle.syntax.specs.declared.spot.Spot.TheVariants.{Unknown, Number, Array, Handed, Input, Output, Function}
 use Rattle.syntax.specs.declared.spot.Meant.{Meant}
-use Rattle.syntax.specs.Trees.{Name, Expr, literal, variable, paren, binary, assign, call, Var, simple, element, Args, no_args, arg, Variable, single, array, Param, number_param, array_param, Stmt, empty, expression, compound, if_then, if_else, while, return, return_value, Stmts, no_stmts, stmt, Block, block, Decl, global, function, Program, Rule}
+use Rattle.syntax.specs.Trees.{Name, Expr, literal, variable, paren, binary, assign, call, Var, simple, element, Args, no_args, arg, Variable, single, array, Param, number_param, array_param, Stmt, empty, expression, compound, if_then, if_else, while, return, return_value, Stmts, no_stmts, stmt, Block, block, global, function, Program, Rule}
 use Rattle.syntax.specs.Sizes.{cells, room, width}
 
 -- a name in force: its text, what it means, and of a function the parameters

@@ -1,7 +1,7 @@
 -- Each token stands behind the one before it.
-use Rattle.std.proofs.Common.{◌≡◌, ℕ, ◌+◌, ◌<◌, ◌≤◌, List, [], ◌∷◌, map, length, arith}
+use Rattle.std.proofs.Common.{ℕ, ◌+◌, ◌<◌, ◌≤◌, List, [], ◌∷◌, map, length, arith}
 use Rattle.tokens.specs.Tokens.{Tok, end, mark, number, name}
-use Rattle.tokens.specs.Lexemes.{Spells, reserved, digits, letters, Lexeme, Ending, Lexed, finished, gap, lexeme, unclosed_comment, unexpected_byte}
+use Rattle.tokens.specs.Lexemes.{Spells, reserved, digits, letters, finished, gap, lexeme, unclosed_comment, unexpected_byte}
 use Rattle.tokens.specs.Reply.{Rising, PlacesRise}
 use Rattle.tokens.proofs.Texts.{some_bytes}
 

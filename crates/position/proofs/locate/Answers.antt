@@ -1,8 +1,7 @@
-use Rattle.std.proofs.Common.{◌≡◌, ℕ, ◌+◌, ◌-◌, ◌≤◌, min, List, length, take, drop, sym, subst, arith}
+use Rattle.std.proofs.Common.{◌≡◌, ℕ, ◌+◌, ◌-◌, min, List, length, take, drop, subst, arith}
 use native.Mathlib.Nat.{sub-zero}
 use Rattle.std.proofs.lemmas.List.{take_rest}
 use Rattle.position.specs.declared.Line.{Line}
-use Rattle.position.specs.declared.Position.{Position}
 use Rattle.position.specs.Lines.{Before, After, Stands}
 use Rattle.position.proofs.Joining.{joined}
 use Rattle.position.proofs.locate.Goals as goal

@@ -1,4 +1,4 @@
-use Rattle.std.proofs.Common.{◌≡◌, eqb, sym, ◌∙◌, arith, eq-eqb, ne_eqb}
+use Rattle.std.proofs.Common.{eqb, sym, ◌∙◌, arith, eq-eqb, ne_eqb}
 use Rattle.image.proofs.Walks.{all_passes, all_fails, all_ends}
 use Rattle.image.proofs.reader.are_zero.Goals as goal
 

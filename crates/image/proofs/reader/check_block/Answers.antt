@@ -1,7 +1,7 @@
-use Rattle.std.proofs.Common.{◌≡◌, ℕ, Bool, true, false, List, get_or, Ok, sym, refl, ap, ◌∙◌, arith}
+use Rattle.std.proofs.Common.{true, false, get_or, Ok, sym, refl, ap, ◌∙◌, arith}
 use Rattle.image.specs.Layout.{layout}
 use Rattle.image.specs.Reading.{header_right, unless}
-use Rattle.image.proofs.Faults.{verdict, fault_is, there, missing, header_parts}
+use Rattle.image.proofs.Faults.{fault_is, there, missing, header_parts}
 use Rattle.image.proofs.reader.check_block.Goals as goal
 
 pub returns-in_default : goal.returns-in_default

@@ -1,12 +1,12 @@
 use Rattle.std.proofs.Common.{◌≡◌, ℕ, ◌+◌, ◌-◌, ◌*◌, ◌<◌, ◌≤◌, List, ◌++◌, length, get_or, take, drop, None, sym, refl, ap, ◌∙◌, append-nil, arith, length-drop, length-take}
 use borrow.Rule.Slice.PartMut.{put_mid}
-use Rattle.std.proofs.lemmas.List.{take_all, take-append-drop}
+use Rattle.std.proofs.lemmas.List.{take-append-drop}
 use Rattle.std.proofs.lemmas.Slice.{drop-put_mid}
 use Rattle.machine.specs.declared.instruction.Instruction.{Instruction}
 use Rattle.image.specs.Layout.{layout}
 use Rattle.image.specs.Reading.{four_at, instructions, first_fault, content}
 use Rattle.image.proofs.Walks.{front_grows, content_next, content_none, held, length_instructions}
-use Rattle.image.proofs.Scan.{Clean, piece, here, is_piece, scan_clean, onward, counted, is_held, length_body}
+use Rattle.image.proofs.Scan.{piece, here, is_piece, scan_clean, onward, counted, is_held, length_body}
 use Rattle.image.proofs.reader.decode_blocks.Goals as goal
 
 -- the instruction count of this turn's block: it is at most 62, and the store has room for so many

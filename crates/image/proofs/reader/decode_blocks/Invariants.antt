@@ -1,4 +1,4 @@
-use Rattle.std.proofs.Common.{◌≡◌, ◌+◌, ◌-◌, ◌*◌, ◌≤◌, ◌++◌, length, take, drop, None}
+use Rattle.std.proofs.Common.{◌≡◌, ◌+◌, ◌-◌, ◌*◌, ◌++◌, length, take, drop, None}
 use Rattle.image.specs.Layout.{layout}
 use Rattle.image.specs.Reading.{four_at, first_fault, content}
 use Rattle.image.proofs.reader.decode_blocks.Given as goal

@@ -1,4 +1,4 @@
-use Rattle.std.proofs.Common.{◌≡◌, ℕ, ◌<◌, sym, arith, below_more}
+use Rattle.std.proofs.Common.{sym, arith, below_more}
 use Rattle.machine.specs.Form.{formed}
 use Rattle.image.specs.Layout.{blank}
 use Rattle.image.proofs.Walks.{leading_passes, leading_fails, leading_ends}
