@@ -1,12 +1,12 @@
 -- A run of the machine, as the cabinet answers it.
-use Rattle.std.proofs.Common.{◌≡◌, ℕ, ◌-◌, min, Bool, true, false, cond, ◌&&◌, leb, List, length, take, ℤ, Ok, sym, refl, ap, ◌∙◌, inl, inr, arith}
+use Rattle.std.proofs.Common.{◌≡◌, ℕ, ◌-◌, min, true, false, ◌&&◌, leb, List, length, take, ℤ, Ok, sym, ap, ◌∙◌, inl, inr, arith}
 use native.Mathlib.Nat.{sub-zero}
 use Rattle.std.proofs.lemmas.List.{take_all}
 use Rattle.std.proofs.lemmas.Bool.{cases_lt, cond-true, cond-false}
 use Rattle.port.specs.Ways.{Ways}
 use Rattle.machine.specs.declared.instruction.Instruction.{Instruction}
 use Rattle.machine.specs.Machine.{state_of}
-use Rattle.machine.specs.Run.{Outcome, run_over, Told, told}
+use Rattle.machine.specs.Run.{run_over, Told, told}
 use Rattle.cabinet.specs.declared.Loaded.{Loaded}
 use Rattle.cabinet.specs.Calls.{mismatched, Running, went, run_outcome}
 

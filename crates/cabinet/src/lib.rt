@@ -86,7 +86,8 @@ impl Empty {
         code: &mut [Instruction],
         memory: &mut [i32],
     ) -> Result<Started, Refused>
-        ensures* { λ r. ⌜ record { result = r; code = code.new; memory = memory.new } ≡ load_outcome self image.now code.old memory.old ⌝ }
+        ensures { record { result = result; code = code.new; memory = memory.new }
+            ≡ load_outcome self image.now code.old memory.old }
     {
         let cells = memory.len();
         match prepare(image, code, cells) {
@@ -118,7 +119,8 @@ impl Loaded {
         port: &mut P,
         grant: u32,
     ) -> Result<Ran, Refusal>
-        ensures* { λ r. ⌜ record { result = r; cabinet = self.new; memory = memory.new; port = P.Port.meaning port.new } ≡ run_outcome P.Port.ways self.old code.now memory.old (P.Port.meaning port.old) grant ⌝ }
+        ensures { record { result = result; cabinet = self.new; memory = memory.new; port = P.Port.meaning port.new }
+            ≡ run_outcome P.Port.ways self.old code.now memory.old (P.Port.meaning port.old) grant }
     {
         if code.len() != self.slots || memory.len() != self.cells as usize {
             return Err(Refusal {
@@ -138,7 +140,8 @@ impl Loaded {
 
     // Back to the start of the code.
     pub fn restart(&mut self, code: &[Instruction], memory: &mut [i32]) -> Result<(), Refusal>
-        ensures* { λ r. ⌜ record { result = r; cabinet = self.new; memory = memory.new } ≡ restart_outcome self.old code.now memory.old ⌝ }
+        ensures { record { result = result; cabinet = self.new; memory = memory.new }
+            ≡ restart_outcome self.old code.now memory.old }
     {
         if code.len() != self.slots || memory.len() != self.cells as usize {
             return Err(Refusal {
