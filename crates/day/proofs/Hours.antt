@@ -1,5 +1,5 @@
 -- What an hour leaves: a book that matches.
-use Rattle.std.proofs.Common.{◌≡◌, ℕ, ◌+◌, ◌-◌, ◌<◌, ◌≤◌, min, Bool, true, false, cond, not, ◌&&◌, ◌||◌, eqb, leb, List, [], ◌∷◌, ◌++◌, length, get_or, take, drop, set, ℤ, pos, Some, None, Ok, Err, Option, Result, sym, refl, ap, ◌∙◌, subst, inl, inr, append_assoc, arith, length-append, length-drop, length-set, Bor}
+use Rattle.std.proofs.Common.{◌≡◌, ℕ, ◌+◌, ◌-◌, ◌<◌, ◌≤◌, min, Bool, true, false, cond, not, ◌&&◌, eqb, leb, List, [], ◌∷◌, ◌++◌, length, get_or, take, drop, set, ℤ, pos, Some, None, Ok, Err, Option, Result, sym, refl, ap, ◌∙◌, subst, append_assoc, arith, length-append, length-drop, length-set, Bor}
 use native.Mathlib.Nat.{sub-zero}
 use lib.ListN.{length-replicate}
 use Rattle.std.proofs.lemmas.List.{take_at, take-take, take_more, take_more_set, take-append-drop, length-take-le, drop-drop, drop-set-lt}
@@ -11,17 +11,16 @@ use Rattle.machine.specs.Machine.{State, start}
 use Rattle.machine.specs.Run.{Outcome, run_over, none}
 use Rattle.machine.proofs.Runs.{joined, run_is_steps}
 use Rattle.image.specs.Layout.{layout}
-use Rattle.image.specs.Reading.{code_of, unless, length_fault, image_fault, read_reply}
+use Rattle.image.specs.Reading.{code_of, unless, length_fault, image_fault}
 use Rattle.cabinet.specs.declared.Empty.{Empty}
 use Rattle.cabinet.specs.declared.Loaded.{Loaded}
-use Rattle.cabinet.specs.Calls.{load_reply, load_outcome, Loading, started, mismatched, Running, run_outcome, went, stayed, Restarting, restart_outcome}
+use Rattle.cabinet.specs.Calls.{load_reply, Loading, mismatched, Running, went, Restarting}
 use Rattle.day.specs.declared.Cabinet.{Cabinet}
 use Rattle.day.specs.declared.Cabinet.TheVariants.{Off, On}
 use Rattle.day.specs.declared.Command.{Command}
 use Rattle.day.specs.declared.Command.TheVariants.{Load, Run, Restart, Unload}
 use Rattle.day.specs.declared.Order.{Order}
 use Rattle.day.specs.declared.Reply.{Reply}
-use Rattle.day.specs.declared.Reply.TheVariants as reply
 use Rattle.day.specs.Answers.{Setup, Answer, unfit, load_answer, run_reply, restart_reply, answer_by, answer, slots_of, cells_of, front, whole, answer_order}
 use Rattle.day.specs.Book.{Book, opened, continued, Entry, entry, fed, Reached}
 use Rattle.day.specs.Book as book

@@ -3,7 +3,6 @@ use Rattle.refusal.specs.declared.Refusal.{Refusal}
 use Rattle.port.specs.Ways.{Ways}
 use Rattle.machine.specs.declared.instruction.Instruction.{Instruction}
 use Rattle.machine.specs.declared.grant.Ran.{Ran}
-use Rattle.cabinet.specs.declared.Empty.{Empty}
 use Rattle.cabinet.specs.declared.Started.{Started}
 use Rattle.cabinet.specs.declared.Refused.{Refused}
 use Rattle.cabinet.specs.Calls.{Loading, load_outcome, Running, run_outcome, Restarting, restart_outcome}

@@ -1,7 +1,7 @@
-use Rattle.std.specs.Prelude.{◌≡◌, ℕ, ◌≤◌, min, List, [], ◌∷◌, ◌++◌, length, take, drop, ℤ, Some, None, Option}
+use Rattle.std.specs.Prelude.{◌≡◌, ◌≤◌, min, List, [], ◌∷◌, ◌++◌, length, take, drop, ℤ, Some, None, Option}
 use Rattle.port.specs.Ways.{Ways}
 use Rattle.machine.specs.declared.instruction.Instruction.{Instruction}
-use Rattle.machine.specs.Run.{Outcome, run_over}
+use Rattle.machine.specs.Run.{run_over}
 use Rattle.cabinet.specs.declared.Loaded.{Loaded}
 use Rattle.day.specs.declared.Cabinet.{Cabinet}
 use Rattle.day.specs.declared.Cabinet.TheVariants.{Off, On}
