@@ -10,7 +10,6 @@ use Rattle.gateway.specs.declared.script.Call.TheVariants as call
 use Rattle.gateway.specs.declared.script.Hour.{Hour}
 use Rattle.gateway.specs.declared.neighbours.Told.{Told}
 use Rattle.gateway.specs.declared.neighbours.Told.TheVariants as told
-use Rattle.gateway.specs.declared.neighbours.Sighting.{Sighting}
 use Rattle.gateway.specs.declared.neighbours.Neighbours.{Neighbours}
 use Rattle.gateway.specs.declared.trace.Trace.{Trace}
 use Rattle.gateway.specs.Noting.{noted, and_then}

@@ -24,6 +24,7 @@ use crate::error::Fault;
 use crate::exec::exec_file;
 use crate::serve::serve_limit;
 use crate::show::show_file;
+use std::process::ExitCode;
 
 fn run(rt: &HostRuntime) -> Result<(), Fault> {
     match parse_command(rt)? {
@@ -36,10 +37,12 @@ fn run(rt: &HostRuntime) -> Result<(), Fault> {
     }
 }
 
-fn main(rt: HostRuntime) -> Result<(), Fault> {
-    let result = run(&rt);
-    if let Err(fault) = &result {
-        eprintln!(rt; "gateway: {fault}")?;
+fn main(rt: HostRuntime) -> ExitCode {
+    match run(&rt) {
+        Ok(()) => ExitCode::SUCCESS,
+        Err(fault) => {
+            let _told = eprintln!(rt; "gateway: {fault}");
+            ExitCode::FAILURE
+        }
     }
-    result
 }

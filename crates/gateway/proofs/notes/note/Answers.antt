@@ -22,7 +22,7 @@ lost places seen count item full fits more =
     (omega arith) more
 
 pub returns-then-seen-places : goal.returns-then-seen-places
-returns-then-seen-places g c = lost _ _ _ _ (omega arith) (omega arith) c.saturating-add.ensures
+returns-then-seen-places g c = lost _ _ _ _ (omega arith) (omega arith) c.saturating_add.ensures
 
 pub returns : goal.returns
 returns g c = held _ _ _ (omega arith) (omega arith)

@@ -28,10 +28,10 @@ kept image n size room store rest more front reply same begins cut =
 
 pub returns : goal.returns
 returns c =
-    let count = c.in-ok-count.count in
-    let before = c.as-mut-slice.result.now in
+    let count = c.in_ok-count.count in
+    let before = c.as_mut_slice.result.now in
     let after = c.read.new.code in
-    let done = c.in-ok-count.ensures in
-    kept c.args.image.now count (length before) c.in-ok-code.code.len after (drop count before)
-    (drop (length after) c.in-ok-code.code.items) _ done.reply c.as-mut-slice.ensures.len done.store
+    let done = c.in_ok-count.ensures in
+    kept c.args.image.now count (length before) c.in_ok-code.code.len after (drop count before)
+    (drop (length after) c.in_ok-code.code.items) _ done.reply c.as_mut_slice.ensures.len done.store
     c.truncate.ensures.items
