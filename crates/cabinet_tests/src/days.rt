@@ -4,6 +4,7 @@ use day::{Cabinet, Command, Order, Others, Reply};
 use machine::{Ran, Stop};
 use port::Live;
 use std::process::Abort;
+use std::test::Fail;
 
 // Takes each reading on to the port.
 static ROWS: [Row; 3] = [Row(1, 0, 0, 0, 0), Row(2, 0, 0, 0, 0), Row(10, 7, 0, 0, 0)];

@@ -2,6 +2,7 @@ use crate::samples::*;
 use machine::{Ran, Stop};
 use port::Live;
 use std::process::Abort;
+use std::test::Fail;
 
 const STEP: Ran = Ran {
     stop: Stop::Spent,

@@ -4,6 +4,7 @@ use machine::{Ran, Stop};
 use port::Record;
 use std::alloc::Global;
 use std::process::Abort;
+use std::test::Fail;
 
 // Counts 3 down to 0, puts that and stops: nine steps.
 static COUNTDOWN: [Row; 6] = [

@@ -2,6 +2,7 @@ use crate::samples::*;
 use machine::instruction::Instruction;
 use std::alloc::{AllocError, Global};
 use std::process::Abort;
+use std::test::Fail;
 
 static ROWS: [Row; 3] = [
     Row(10, 0, 0, 0, 1000),

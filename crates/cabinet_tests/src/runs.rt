@@ -5,6 +5,7 @@ use machine::{Ran, Stop};
 use port::Live;
 use refusal::Refusal;
 use std::process::Abort;
+use std::test::Fail;
 
 // A cabinet is loaded over ten slots and twenty cells of these stores.
 const SLOTS: usize = 12;

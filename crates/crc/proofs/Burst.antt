@@ -2,7 +2,7 @@
 use Rattle.std.proofs.Common.{◌≡◌, ℕ, ◌+◌, ◌-◌, ◌*◌, ◌/◌, ◌%◌, ◌^◌, ◌<◌, ◌≤◌, true, eqb, leb, List, [], ◌∷◌, ◌++◌, length, get_or, take, sym, refl, ap, ◌∙◌, subst, inl, inr, mul_assoc, arith, length-append}
 use native.Mathlib.Nat.{zero-mod, mul-add-mod_self_right}
 use lib.Bits.{bit_xor, xor_self}
-use Rattle.std.specs.List.{AllByRecursion as All}
+use Rattle.std.specs.List.{AllByRecursion}
 use Rattle.std.proofs.lemmas.Nat.{pow-add, mod-pow-add}
 use Rattle.std.proofs.ByRecursion.{All-get_or}
 use Rattle.std.proofs.lemmas.List.{take-append-drop, take_at, get_or_at, get_or-append-add, drop_more, drop_all}
@@ -12,7 +12,7 @@ use Rattle.crc.proofs.Linear.{same_from_xor, xor_same, shift_fits, difference_ba
 use Rattle.crc.proofs.WholeBytes.{own_byte, byte_into_itself}
 
 abbrev Binary : List ℕ → Type 0
-Binary = All (λ w. w < 2)
+Binary = AllByRecursion (λ w. w < 2)
 
 binary_bits : (bytes : List ℕ) → Binary (bits bytes)
 binary_bits [] = tt

@@ -1,5 +1,5 @@
 ghost use Rattle.std.specs.Prelude.{◌≡◌};
-ghost use Rattle.gateway.specs.Serving.{visited, told_by, planned as planned-at, Called};
+ghost use Rattle.gateway.specs.Serving.{visited, told_by, planned as planned_at, Called};
 
 use crate::notes::Notes;
 use crate::script::{Hour, Visit};
@@ -75,7 +75,7 @@ fn visit_below(ceiling: &mut Ceiling<Live>, visit: Visit) -> Told
 
 // The visit that the script has at an hour.
 fn planned(hours: &[Hour], k: usize) -> Visit
-    ensures { result ≡ planned-at hours.now k }
+    ensures { result ≡ planned_at hours.now k }
 {
     if k < hours.len() {
         hours[k].0

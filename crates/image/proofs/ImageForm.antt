@@ -1,6 +1,6 @@
 -- The image of a code reads back as that code; a faultless image is the image of the code that it holds.
 use Rattle.std.proofs.Common.{◌≡◌, ℕ, zero, suc, ◌+◌, ◌-◌, ◌*◌, ◌/◌, ◌%◌, ◌^◌, ◌<◌, ◌≤◌, Bool, true, false, cond, ◌&&◌, eqb, leb, ◌⊎◌, List, [], ◌∷◌, ◌++◌, length, get_or, take, drop, IfOk, Some, None, Ok, Err, Option, Result, sym, refl, ap, ◌∙◌, subst, inl, inr, mul_comm, mul-zero, mul-suc, arith, length-append, length-drop, length-take}
-use Rattle.std.specs.List.{AllByRecursion as All}
+use Rattle.std.specs.List.{AllByRecursion}
 use Rattle.std.proofs.lemmas.Nat.{div-mul-add, div-add-mod', mod_below, mul-le}
 use Rattle.std.proofs.ByRecursion.{All-take, All-drop}
 use Rattle.std.proofs.lemmas.List.{append-nil, take_at, drop_at, take_all, drop_all, take-append-drop, length-take-le, get_or-take, nil_from_length}
@@ -121,7 +121,7 @@ same_four bytes =
 module _ {A : Type 0} (l : Layout A) (s : Sound l) (number blocks : ℕ) where
   -- the blocks that are made for a code
   made : (n index : ℕ) (code : List A) → number < 2 ^ 32 → blocks < 2 ^ 16 → index + n ≡ blocks → Rows l.capacity n (length code)
-      → All (λ a. l.decode (l.encode a) ≡ a) code → all l.formed code ≡ true
+      → AllByRecursion (λ a. l.decode (l.encode a) ≡ a) code → all l.formed code ≡ true
       → (first_fault l number blocks index n (blocks_from l number blocks index n code) ≡ None)
       × (content l n (blocks_from l number blocks index n code) ≡ code)
       × (length (blocks_from l number blocks index n code) ≡ 512 * n)
@@ -234,7 +234,7 @@ module _ {A : Type 0} (l : Layout A) (s : Sound l) where
 
   -- what write makes of a code, read reads as that code
   pub reads_back : (number : ℕ) (code : List A) → number < 2 ^ 32 → 1 ≤ length code → length code ≤ l.limit * l.capacity
-      → All (λ a. l.decode (l.encode a) ≡ a) code → all l.formed code ≡ true
+      → AllByRecursion (λ a. l.decode (l.encode a) ≡ a) code → all l.formed code ≡ true
       → ReadsAs l (image l number code) code × (length (image l number code) ≡ 512 * blocks_for l (length code))
   unfolding image
   reads_back number code n-fits some few each formed =
@@ -304,7 +304,7 @@ module _ {A : Type 0} (l : Layout A) (s : Sound l) where
   accepted r n false b c x y z e = let z : ◌≡◌ {A = ℕ} 0 1 = cc in absurd (omega arith)
 
   pub write_read : (number : ℕ) (code : List A) (before after : List ℕ) (r : Result ℕ Refusal) → number < 2 ^ 32
-      → IfOk r (λ _. All (λ a. l.decode (l.encode a) ≡ a) code)
+      → IfOk r (λ _. AllByRecursion (λ a. l.decode (l.encode a) ≡ a) code)
       → r ≡ write_reply l code (length before) → after ≡ store_after l number code before r
       → IfOk r (λ n. ReadsAs l (take (512 * n) after) code)
   write_read number code before after (Err e) n-fits each reply store = tt

@@ -1,6 +1,7 @@
 use crate::samples::*;
 use machine::instruction::Instruction;
 use std::alloc::{AllocError, Global};
+use std::test::Fail;
 
 #[derive(Clone, Copy)]
 struct Encoded(Row, [u8; 8]);

@@ -2,6 +2,7 @@ use crate::samples::*;
 use machine::instruction::Instruction;
 use std::alloc::Global;
 use std::process::Abort;
+use std::test::Fail;
 
 // Each breaks one rule of the form.
 static MALFORMED: [Row; 16] = [

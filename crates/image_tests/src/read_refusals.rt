@@ -1,6 +1,7 @@
 use crate::samples::*;
 use std::alloc::Global;
 use std::process::Abort;
+use std::test::Fail;
 
 // A block, one of its bytes and what is put there, and the place that the refusal then names.
 #[derive(Clone, Copy)]

@@ -3,6 +3,7 @@ use image::header_at;
 use machine::instruction::Instruction;
 use std::alloc::Global;
 use std::process::Abort;
+use std::test::Fail;
 
 // Instructions, blocks, bytes, and the index and the count of the last block.
 #[derive(Clone, Copy)]

@@ -1,6 +1,7 @@
 use crate::samples::*;
 use machine::instruction::Instruction;
 use std::alloc::{AllocError, Global};
+use std::test::Fail;
 
 // Instructions, the indices of up to two malformed ones, the bytes of the store, and the refusal.
 #[derive(Clone, Copy)]

@@ -1,7 +1,7 @@
 -- The pass that writes the tokens of a source without fault.
 use Rattle.std.proofs.Common.{◌≡◌, ℕ, ◌+◌, ◌-◌, ◌<◌, ◌≤◌, false, List, [], ◌∷◌, ◌++◌, map, length, take, drop, set, Some, None, Ok, Option, sym, refl, ap, ◌∙◌, subst, inl, inr, append_assoc, append-nil, arith, length-set, Bor}
 use native.Mathlib.Nat.{sub_self}
-use Rattle.std.specs.List.{AllByRecursion as All}
+use Rattle.std.specs.List.{AllByRecursion}
 use Rattle.std.proofs.lemmas.List.{drop-drop, drop-set-lt, take_more_set, map_push, length_push}
 use Rattle.std.proofs.lemmas.Bool.{cases_Bool, cond-true, both_ways}
 use Rattle.refusal.specs.declared.Refusal.{Refusal}
@@ -49,7 +49,7 @@ pub later_clean : (f g : Option Refusal) → or_else f g ≡ None → g ≡ None
 later_clean None g e = e
 later_clean (Some f) g e = absurd (clash (cc))
 
-small_numbers : (last : Lexeme) (ls : List Lexeme) (e : Ending) → first_fault last ls e ≡ None → All Small ls
+small_numbers : (last : Lexeme) (ls : List Lexeme) (e : Ending) → first_fault last ls e ≡ None → AllByRecursion Small ls
 small_numbers last [] e clean = tt
 small_numbers last (l ∷ ls) e clean =
     elim (cases_Bool (too_large l.token)) [
@@ -60,7 +60,7 @@ small_numbers last (l ∷ ls) e clean =
     ]
 
 -- what stands where the pass ends
-nothing_left : {p : ℕ} {bs : List ℕ} {ls : List Lexeme} → Lexed p bs ls complete → All Small ls → (n : Next) → Stands p bs n
+nothing_left : {p : ℕ} {bs : List ℕ} {ls : List Lexeme} → Lexed p bs ls complete → AllByRecursion Small ls → (n : Next) → Stands p bs n
     → ((t : Token) (r : Bor (List ℕ)) → n ≡ next.Token t r → ⊥) → ((r : Bor (List ℕ)) → n ≡ next.Gap r → ⊥) → ls ≡ []
 nothing_left {p} d small next.End empty no_token no_gap =
     (no_other_ending d complete (subst (λ bs. Lexed p bs [] complete) (sym empty) finished)).0
@@ -68,7 +68,7 @@ nothing_left d small (next.Gap r) stands no_token no_gap = absurd (no_gap r refl
 nothing_left d small (next.Token t r) stands no_token no_gap = absurd (no_token t r refl)
 nothing_left d small next.TooLarge (r, t, l, large) no_token no_gap =
     let (ms, is, d') = past_lexeme d l in
-    absurd (both_ways (too_large t) (subst (All Small) is small).0 large)
+    absurd (both_ways (too_large t) (subst (AllByRecursion Small) is small).0 large)
 nothing_left {p} d small next.Unclosed open-end no_token no_gap =
     absurd (clash (cc (no_other_ending d (unclosed p) open-end).1))
 nothing_left {p} d small next.Unexpected no_text no_token no_gap =
@@ -103,7 +103,7 @@ pub record Filling (source rest : List ℕ) (count : ℕ) (tokens before : List 
   pub whole : Lexed 0 source (done ++ left) complete
   pub few : length done + length left ≤ 2048
   pub ahead : Lexed (length source - length rest) rest left complete
-  pub small : All Small left
+  pub small : AllByRecursion Small left
   pub within : length rest ≤ length source
   pub counted : count ≡ length done
   pub room : length tokens ≡ 2048
@@ -169,7 +169,7 @@ module _ {source rest : List ℕ} {count : ℕ} {tokens before : List Token} (v 
           whole = subst (λ ls. Lexed 0 source ls complete) grown v.whole;
           few = let few = v.few in omega arith;
           ahead = subst (λ q. Lexed q r ms complete) (later source l.text r l.whole v.within) d;
-          small = (subst (All Small) is v.small).1;
+          small = (subst (AllByRecursion Small) is v.small).1;
           within = let less = leads_shorter l in let h = v.within in omega arith;
           counted = let c = v.counted in omega arith;
           room = length-set tokens count token ∙ v.room;

@@ -1,6 +1,6 @@
 -- Facts of every keyword and symbol, from facts of the lists that they stand in.
 use Rattle.std.proofs.Common.{◌≡◌, ℕ, ◌<◌, Bool, true, false, cond, ◌&&◌, eqb, ltb, List, [], ◌∷◌, ◌++◌, length, get_or, sym, refl, ap, ◌∙◌}
-use Rattle.std.specs.List.{AllByRecursion as All}
+use Rattle.std.specs.List.{AllByRecursion}
 use Rattle.std.specs.Str.{bytes_eq}
 use Rattle.std.proofs.ByRecursion.{All-weaker}
 use Rattle.std.proofs.lemmas.Bool.{and_parts, ltb-true, eqb-true}
@@ -12,7 +12,7 @@ use Rattle.tokens.specs.Lexemes.{letter, spelling, Run}
 use Rattle.tokens.proofs.Codes.{code, same_code}
 use Rattle.tokens.specs.Scanning.{class, keywords, doubles, singles}
 
-pub every : (P : Mark → Type 0) → All P keywords → All P doubles → All P singles → (m : Mark) → P m
+pub every : (P : Mark → Type 0) → AllByRecursion P keywords → AllByRecursion P doubles → AllByRecursion P singles → (m : Mark) → P m
 every P k d s Else = k.0
 every P k d s If = k.1.0
 every P k d s Int = k.1.1.0
@@ -39,7 +39,7 @@ every P k d s RightBracket = s.1.1.1.1.1.1.1.1.1.1.1.1.0
 every P k d s LeftBrace = s.1.1.1.1.1.1.1.1.1.1.1.1.1.0
 every P k d s RightBrace = s.1.1.1.1.1.1.1.1.1.1.1.1.1.1.0
 
-pub all_both : {P Q R : Mark → Type 0} → ((m : Mark) → P m → Q m → R m) → (ms : List Mark) → All P ms → All Q ms → All R ms
+pub all_both : {P Q R : Mark → Type 0} → ((m : Mark) → P m → Q m → R m) → (ms : List Mark) → AllByRecursion P ms → AllByRecursion Q ms → AllByRecursion R ms
 all_both f [] p q = tt
 all_both f (m ∷ ms) p q = (f m p.0 q.0, all_both f ms p.1 q.1)
 
@@ -47,14 +47,14 @@ abbrev all : {X : Type 0} → (X → Bool) → List X → Bool
 all test [] = true
 all test (x ∷ xs) = test x && all test xs
 
-tested : {X : Type 0} (test : X → Bool) (xs : List X) → all test xs ≡ true → All (λ x. test x ≡ true) xs
+tested : {X : Type 0} (test : X → Bool) (xs : List X) → all test xs ≡ true → AllByRecursion (λ x. test x ≡ true) xs
 tested test [] e = tt
 tested test (x ∷ xs) e = let both = and_parts (test x) (all test xs) e in (both.0, tested test xs both.1)
 
 -- ---- what the lists hold
 
 by_test : (P : Mark → Type 0) (test : Mark → Bool) → ((m : Mark) → test m ≡ true → P m) → (ms : List Mark)
-    → all test ms ≡ true → All P ms
+    → all test ms ≡ true → AllByRecursion P ms
 by_test P test sound ms e = All-weaker (λ m. test m ≡ true) P sound ms (tested test ms e)
 
 abbrev of_letters : Mark → Bool
@@ -65,13 +65,13 @@ letters_run m e =
     let (some, letters) = and_parts (ltb 0 (length (spelling m))) (all letter (spelling m)) e in
     (ltb-true 0 (length (spelling m)) some, tested letter (spelling m) letters)
 
-pub keyword_runs : All (λ m. Run letter (spelling m)) keywords
+pub keyword_runs : AllByRecursion (λ m. Run letter (spelling m)) keywords
 keyword_runs = by_test (λ m. Run letter (spelling m)) of_letters letters_run keywords refl
 
 abbrev longer : ℕ → Mark → Bool
 longer n m = ltb n (length (spelling m))
 
-pub keyword_lengths : All (λ m. 1 < length (spelling m)) keywords
+pub keyword_lengths : AllByRecursion (λ m. 1 < length (spelling m)) keywords
 keyword_lengths = by_test (λ m. 1 < length (spelling m)) (longer 1) (λ m. ltb-true 1 (length (spelling m))) keywords refl
 
 abbrev pub first : Mark → ℕ
@@ -89,25 +89,25 @@ other_is Digit e = cc
 other_is White e = cc
 other_is Other e = refl
 
-firsts : (ms : List Mark) → all (λ m. is_other (class (first m))) ms ≡ true → All (λ m. class (first m) ≡ Other) ms
+firsts : (ms : List Mark) → all (λ m. is_other (class (first m))) ms ≡ true → AllByRecursion (λ m. class (first m) ≡ Other) ms
 firsts = by_test (λ m. class (first m) ≡ Other) (λ m. is_other (class (first m))) (λ m. other_is (class (first m)))
 
-pub double_firsts : All (λ m. class (first m) ≡ Other) doubles
+pub double_firsts : AllByRecursion (λ m. class (first m) ≡ Other) doubles
 double_firsts = firsts doubles refl
 
-pub single_firsts : All (λ m. class (first m) ≡ Other) singles
+pub single_firsts : AllByRecursion (λ m. class (first m) ≡ Other) singles
 single_firsts = firsts singles refl
 
 abbrev as_long : ℕ → Mark → Bool
 as_long n m = eqb (length (spelling m)) n
 
-lengths : (n : ℕ) (ms : List Mark) → all (as_long n) ms ≡ true → All (λ m. length (spelling m) ≡ n) ms
+lengths : (n : ℕ) (ms : List Mark) → all (as_long n) ms ≡ true → AllByRecursion (λ m. length (spelling m) ≡ n) ms
 lengths n = by_test (λ m. length (spelling m) ≡ n) (as_long n) (λ m. eqb-true (length (spelling m)) n)
 
-pub double_lengths : All (λ m. length (spelling m) ≡ 2) doubles
+pub double_lengths : AllByRecursion (λ m. length (spelling m) ≡ 2) doubles
 double_lengths = lengths 2 doubles refl
 
-pub single_lengths : All (λ m. length (spelling m) ≡ 1) singles
+pub single_lengths : AllByRecursion (λ m. length (spelling m) ≡ 1) singles
 single_lengths = lengths 1 singles refl
 
 -- ---- two marks have two spellings

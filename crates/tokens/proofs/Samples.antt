@@ -1,6 +1,6 @@
 -- The lexemes of some small sources.
 use Rattle.std.proofs.Common.{◌≡◌, ℕ, ◌+◌, ◌<◌, true, List, [], ◌∷◌, length, get_or, take, codes, sym, refl, ap, ◌∙◌, subst, arith, length-append}
-use Rattle.std.specs.List.{prefix_len, AllByRecursion as All}
+use Rattle.std.specs.List.{prefix_len, AllByRecursion}
 use Rattle.std.proofs.ByRecursion.{All-weaker}
 use Rattle.tokens.specs.declared.token.Mark.{Mark}
 use Rattle.tokens.specs.declared.token.Mark.TheVariants.{Star}
@@ -39,9 +39,9 @@ after_comment p d = gap {x = codes "/**/"} {r = codes "b"} (comment mark_body) d
 no_star : (x : List ℕ) → 0 < length x → (get_or x 0 0 ≡ 42 → ⊥) → Front x (codes "*/**/b") → ⊥
 no_star x some ne f = ne (sym (first_byte (codes "*/**/b") x some f))
 
-no_double : All (Absent (codes "*/**/b")) doubles
+no_double : AllByRecursion (Absent (codes "*/**/b")) doubles
 no_double =
-    let apart : All (λ m. get_or (spelling m) 0 0 ≡ 42 → ⊥) doubles =
+    let apart : AllByRecursion (λ m. get_or (spelling m) 0 0 ≡ 42 → ⊥) doubles =
     (λ e. omega arith, (λ e. omega arith, (λ e. omega arith, (λ e. omega arith, tt)))) in
     let absent : (m : Mark) → length (spelling m) ≡ 2 → (get_or (spelling m) 0 0 ≡ 42 → ⊥) → Absent (codes "*/**/b") m =
     λ m two. no_star (spelling m) (omega arith) in

@@ -1,6 +1,6 @@
 -- What stands at the front of some bytes.
 use Rattle.std.proofs.Common.{◌≡◌, ℕ, ◌<◌, true, false, List, [], ◌∷◌, ◌++◌, length, get_or, take, codes, sym, ap, ◌∙◌, subst, arith}
-use Rattle.std.specs.List.{prefix_len, AllByRecursion as All}
+use Rattle.std.specs.List.{prefix_len, AllByRecursion}
 use Rattle.tokens.specs.declared.bytes.Class.TheVariants.{Other}
 use Rattle.tokens.specs.declared.token.Mark.{Mark}
 use Rattle.tokens.specs.Tokens.{Tok, mark, number, name}
@@ -28,7 +28,7 @@ module _ (p : ℕ) (bs x r : List ℕ) (some : 0 < length bs) (whole : bs ≡ x 
     pub keyword_leads : (m : Mark) → x ≡ spelling m → Leads p bs r (mark p m)
     keyword_leads m is = word_leads (mark p m) (spelt_mark p x m is)
 
-    pub name_leads : All (λ m. x ≡ spelling m → ⊥) keywords → Leads p bs r (name p x)
+    pub name_leads : AllByRecursion (λ m. x ≡ spelling m → ⊥) keywords → Leads p bs r (name p x)
     name_leads none =
         let is : Run letter x = subst (Run letter) (sym run) (is_run letter p bs some starts) in
         word_leads (name p x) (letters is (no_mark x is none))
@@ -75,17 +75,17 @@ module _ (p : ℕ) (bs : List ℕ) (k : class (get_or bs 0 0) ≡ Other) where
     pub double_leads : length x ≡ 2 → Leads p bs r (mark p m)
     double_leads long = mark_leads (double_longest p bs k clear m (ap length (sym spelt) ∙ long))
 
-    pub single_leads : All (Absent bs) doubles → length x ≡ 1 → Leads p bs r (mark p m)
+    pub single_leads : AllByRecursion (Absent bs) doubles → length x ≡ 1 → Leads p bs r (mark p m)
     single_leads two long = mark_leads (single_longest p bs k clear two m (ap length (sym spelt) ∙ long))
 
   module _ (b : ℕ) (r : List ℕ) (e : bs ≡ b ∷ r) where
-    pub no_singles : All (λ m. b ∷ [] ≡ spelling m → ⊥) singles → All (Absent bs) singles
+    pub no_singles : AllByRecursion (λ m. b ∷ [] ≡ spelling m → ⊥) singles → AllByRecursion (Absent bs) singles
     no_singles none =
         let absent : (m : Mark) → (b ∷ [] ≡ spelling m → ⊥) → length (spelling m) ≡ 1 → Absent bs m =
         λ m differs long f. differs (alone b r (spelling m) long (subst (Front (spelling m)) e f)) in
         all_both absent singles none single_lengths
 
-    pub no_token : white b ≡ false → All (Absent bs) doubles → All (Absent bs) singles → Lexed p bs [] (unexpected p)
+    pub no_token : white b ≡ false → AllByRecursion (Absent bs) doubles → AllByRecursion (Absent bs) singles → Lexed p bs [] (unexpected p)
     no_token w two one =
         let none = subst (λ y. (x : List ℕ) (t : Tok) → Spells p x t → Front x y → ⊥) e (no_text p bs k two one) in
         subst (λ y. Lexed p y [] (unexpected p)) (sym e) (unexpected_byte w none)

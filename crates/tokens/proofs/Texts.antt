@@ -1,6 +1,6 @@
 -- Which texts some bytes begin with, by their first byte.
 use Rattle.std.proofs.Common.{◌≡◌, ℕ, ◌<◌, ◌≤◌, Bool, true, false, cond, List, [], ◌∷◌, ◌++◌, length, get_or, take, codes, sym, refl, ap, ◌∙◌, subst, inl, inr, one-add, arith}
-use Rattle.std.specs.List.{prefix_len, AllByRecursion as All}
+use Rattle.std.specs.List.{prefix_len, AllByRecursion}
 use Rattle.std.proofs.ByRecursion.{All-weaker}
 use Rattle.std.proofs.lemmas.List.{get_or_append_left, length-take-le}
 use Rattle.std.proofs.lemmas.List.Sums.{prefix_len-le-length}
@@ -41,8 +41,8 @@ class_not_white b e = grind (arith, cases_Bool)
 -- ---- the texts that begin with a byte of each class
 
 abbrev Sorted : Class → List ℕ → Type 0
-Sorted Letter y = All (λ b. letter b ≡ true) y
-Sorted Digit y = All (λ b. digit b ≡ true) y
+Sorted Letter y = AllByRecursion (λ b. letter b ≡ true) y
+Sorted Digit y = AllByRecursion (λ b. digit b ≡ true) y
 Sorted White y = ⊥
 Sorted Other y = (m : Mark) × (y ≡ spelling m)
 
@@ -50,7 +50,7 @@ abbrev Sort : List ℕ → Type 0
 Sort y = (0 < length y) × Sorted (class (get_or y 0 0)) y
 
 run_sort : (test : ℕ → Bool) (k : Class) → ((b : ℕ) → test b ≡ true → class b ≡ k)
-    → ((y : List ℕ) → All (λ b. test b ≡ true) y → Sorted k y) → (y : List ℕ) → Run test y → Sort y
+    → ((y : List ℕ) → AllByRecursion (λ b. test b ≡ true) y → Sorted k y) → (y : List ℕ) → Run test y → Sort y
 run_sort test k in_class sorted [] run = absurd (omega (arith, run.0))
 run_sort test k in_class sorted (b ∷ y) run =
     (run.0, subst (λ c. Sorted c (b ∷ y)) (sym (in_class b run.1.0)) (sorted (b ∷ y) run.1))
@@ -99,7 +99,7 @@ module _ (p : ℕ) (bs : List ℕ) (k : Class) (of-class : class (get_or bs 0 0)
 
 -- ---- runs
 
-leading_all : (test : ℕ → Bool) (bs : List ℕ) → All (λ b. test b ≡ true) (take (prefix_len test bs) bs)
+leading_all : (test : ℕ → Bool) (bs : List ℕ) → AllByRecursion (λ b. test b ≡ true) (take (prefix_len test bs) bs)
 leading_all test [] = tt
 leading_all test (b ∷ bs) = elim (cases_Bool (test b)) [ inl e ↦ rw (e, one-add) (e, leading_all test bs) | inr e ↦ rw e tt ]
 
@@ -107,7 +107,7 @@ leading_some : (test : ℕ → Bool) (bs : List ℕ) → 0 < length bs → test 
 leading_some test [] some e = absurd (omega arith)
 leading_some test (b ∷ bs) some e = rw e (omega arith)
 
-leading_most : (test : ℕ → Bool) (y r : List ℕ) → All (λ b. test b ≡ true) y → length y ≤ prefix_len test (y ++ r)
+leading_most : (test : ℕ → Bool) (y r : List ℕ) → AllByRecursion (λ b. test b ≡ true) y → length y ≤ prefix_len test (y ++ r)
 leading_most test [] r all = omega arith
 leading_most test (b ∷ y) r all = rw all.0 (omega (arith, leading_most test y r all.1))
 
@@ -122,7 +122,7 @@ module _ (test : ℕ → Bool) (p : ℕ) (bs : List ℕ) where
   is_run some e = (let n = length_run in let m = leading_some test bs some e in omega arith, leading_all test bs)
 
   run_longest : (Front (codes "/*") bs → ⊥)
-      → ((y : List ℕ) (t : Tok) → Spells p y t → Front y bs → All (λ b. test b ≡ true) y) → Longest p run bs
+      → ((y : List ℕ) (t : Tok) → Spells p y t → Front y bs → AllByRecursion (λ b. test b ≡ true) y) → Longest p run bs
   run_longest clear same =
       let most : (y : List ℕ) (t : Tok) → Spells p y t → Front y bs → length y ≤ length run =
       λ y t s f.
@@ -147,7 +147,7 @@ word_first [] run = absurd (omega (arith, run.0))
 word_first (b ∷ x) run = letter_class b run.1.0
 
 -- a word that is no keyword is no mark at all
-pub no_mark : (x : List ℕ) → Run letter x → All (λ m. x ≡ spelling m → ⊥) keywords → (m : Mark) → x ≡ spelling m → ⊥
+pub no_mark : (x : List ℕ) → Run letter x → AllByRecursion (λ m. x ≡ spelling m → ⊥) keywords → (m : Mark) → x ≡ spelling m → ⊥
 no_mark x run none =
     let apart : (m : Mark) → class (first m) ≡ Other → x ≡ spelling m → ⊥ =
     λ m o e. clash (cc (word_first x run, ap (λ y. class (get_or y 0 0)) e)) in
@@ -165,17 +165,17 @@ Short n bs m = Front (spelling m) bs → length (spelling m) ≤ n
 abbrev pub Absent : List ℕ → Mark → Type 0
 Absent bs m = Front (spelling m) bs → ⊥
 
-short_by_length : (n l : ℕ) (bs : List ℕ) (ms : List Mark) → l ≤ n → All (λ m. length (spelling m) ≡ l) ms → All (Short n bs) ms
+short_by_length : (n l : ℕ) (bs : List ℕ) (ms : List Mark) → l ≤ n → AllByRecursion (λ m. length (spelling m) ≡ l) ms → AllByRecursion (Short n bs) ms
 short_by_length n l bs ms h = All-weaker (λ m. length (spelling m) ≡ l) (Short n bs) (λ m e f. omega arith) ms
 
-short_if_absent : (n : ℕ) (bs : List ℕ) (ms : List Mark) → All (Absent bs) ms → All (Short n bs) ms
+short_if_absent : (n : ℕ) (bs : List ℕ) (ms : List Mark) → AllByRecursion (Absent bs) ms → AllByRecursion (Short n bs) ms
 short_if_absent n bs = All-weaker (Absent bs) (Short n bs) (λ m none f. absurd (none f))
 
 module _ (p : ℕ) (bs : List ℕ) (k : class (get_or bs 0 0) ≡ Other) where
   no_word : (m : Mark) → Run letter (spelling m) → Absent bs m
   no_word m run f = clash (cc (k, word_first (spelling m) run, ap class (first_byte bs (spelling m) run.0 f)))
 
-  short : (n : ℕ) → All (Short n bs) doubles → All (Short n bs) singles
+  short : (n : ℕ) → AllByRecursion (Short n bs) doubles → AllByRecursion (Short n bs) singles
       → (y : List ℕ) (t : Tok) → Spells p y t → Front y bs → length y ≤ n
   short n two one y t s f =
       let (m, e) = at_front p bs Other k y t s f in
@@ -184,7 +184,7 @@ module _ (p : ℕ) (bs : List ℕ) (k : class (get_or bs 0 0) ≡ Other) where
       let same = ap length e in
       omega arith
 
-  pub no_text : All (Absent bs) doubles → All (Absent bs) singles → (y : List ℕ) (t : Tok) → Spells p y t → Front y bs → ⊥
+  pub no_text : AllByRecursion (Absent bs) doubles → AllByRecursion (Absent bs) singles → (y : List ℕ) (t : Tok) → Spells p y t → Front y bs → ⊥
   no_text two one y t s f =
       let none = short 0 (short_if_absent 0 bs doubles two) (short_if_absent 0 bs singles one) y t s f in
       let some = some_bytes s in
@@ -198,7 +198,7 @@ module _ (p : ℕ) (bs : List ℕ) (k : class (get_or bs 0 0) ≡ Other) where
         let most = short 2 two one in
         record { no_comment = clear; no_longer = λ y t s f. let n = most y t s f in omega arith }
 
-    pub single_longest : All (Absent bs) doubles → (m : Mark) → length (spelling m) ≡ 1 → Longest p (spelling m) bs
+    pub single_longest : AllByRecursion (Absent bs) doubles → (m : Mark) → length (spelling m) ≡ 1 → Longest p (spelling m) bs
     single_longest two m long =
         let most = short 1 (short_if_absent 1 bs doubles two) (short_by_length 1 1 bs singles (omega arith) single_lengths) in
         record { no_comment = clear; no_longer = λ y t s f. let n = most y t s f in omega arith }

@@ -1,6 +1,6 @@
 -- Every source has lexemes.
 use Rattle.std.proofs.Common.{◌≡◌, ℕ, zero, suc, ◌+◌, ◌<◌, ◌≤◌, true, ◌⊎◌, List, [], ◌∷◌, length, take, drop, codes, sym, refl, ap, ◌∙◌, subst, inl, inr, arith, length-append}
-use Rattle.std.specs.List.{prefix_len, AllByRecursion as All}
+use Rattle.std.specs.List.{prefix_len, AllByRecursion}
 use Rattle.std.specs.Str.{bytes_eq}
 use Rattle.std.proofs.lemmas.Slice.Eq.{bytes_eq-Decides}
 use Rattle.std.proofs.lemmas.List.{take-append-drop, nil_from_length}
@@ -60,8 +60,8 @@ same? x y =
     ]
 
 -- the first of the marks with P, all of which have Q
-among : (P Q : Mark → Type 0) → ((m : Mark) → P m ⊎ (P m → ⊥)) → (ms : List Mark) → All Q ms
-    → ((m : Mark) × P m × Q m) ⊎ All (λ m. P m → ⊥) ms
+among : (P Q : Mark → Type 0) → ((m : Mark) → P m ⊎ (P m → ⊥)) → (ms : List Mark) → AllByRecursion Q ms
+    → ((m : Mark) × P m × Q m) ⊎ AllByRecursion (λ m. P m → ⊥) ms
 among P Q p? [] q = inr tt
 among P Q p? (m ∷ ms) q =
     elim (p? m) [
@@ -94,8 +94,8 @@ module _ (p b : ℕ) (t : List ℕ) where
     abbrev Here : ℕ → Type 0
     Here n = (m : Mark) × Front (spelling m) bs × (length (spelling m) ≡ n)
 
-    of_length : (n : ℕ) (ms : List Mark) → All (λ m. length (spelling m) ≡ n) ms
-        → Here n ⊎ All (λ m. Front (spelling m) bs → ⊥) ms
+    of_length : (n : ℕ) (ms : List Mark) → AllByRecursion (λ m. length (spelling m) ≡ n) ms
+        → Here n ⊎ AllByRecursion (λ m. Front (spelling m) bs → ⊥) ms
     of_length n = among (λ m. Front (spelling m) bs) (λ m. length (spelling m) ≡ n) (λ m. front? (spelling m) bs)
 
     symbol : (Front (codes "/*") bs → ⊥) → Standing p bs

@@ -1,7 +1,7 @@
 -- What the tokens of a source are.
 use Rattle.std.specs.Prelude.{◌≡◌, ℕ, ◌+◌, ◌-◌, ◌<◌, ◌≤◌, Bool, true, false, ◌&&◌, ◌||◌, List, [], ◌∷◌, ◌++◌, map, length, codes, ◌==◌, ◌≢◌, nat_le}
-use Rattle.std.specs.List.{AllByRecursion as All}
-use Rattle.std.specs.Int.Digits.{number_from_digits as in-base}
+use Rattle.std.specs.List.{AllByRecursion}
+use Rattle.std.specs.Int.Digits.{number_from_digits}
 use Rattle.tokens.specs.declared.token.Mark.{Mark}
 use Rattle.tokens.specs.declared.token.Mark.TheVariants.{Else, If, Int, Return, Void, While, Plus, Minus, Star, Slash, Less, LessEqual, Greater, GreaterEqual, Equal, NotEqual, Assign, Semicolon, Comma, LeftParen, RightParen, LeftBracket, RightBracket, LeftBrace, RightBrace}
 use Rattle.tokens.specs.Tokens.{Tok, mark, number, name}
@@ -56,11 +56,11 @@ spelling RightBrace = codes "}"
 
 -- one byte or more, and each passes the test
 abbrev pub Run : (ℕ → Bool) → List ℕ → Type 0
-Run test x = (0 < length x) × All (λ b. test b ≡ true) x
+Run test x = (0 < length x) × AllByRecursion (λ b. test b ≡ true) x
 
 -- the number that decimal digits write
 abbrev pub decimal : List ℕ → ℕ
-decimal x = in-base 10 (map (λ d. d - 48) x)
+decimal x = number_from_digits 10 (map (λ d. d - 48) x)
 
 -- the text x, if it stands at p, is this token
 pub data Spells (p : ℕ) : List ℕ → Tok → Type 0 where

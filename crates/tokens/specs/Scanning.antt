@@ -1,7 +1,7 @@
 -- What the functions that look at the front of some bytes answer.
 use Rattle.std.specs.Prelude.{◌≡◌, ℕ, ◌-◌, ◌<◌, true, false, cond, List, [], ◌∷◌, ◌++◌, length, take, drop, Some, None, Option, ◌≢◌, nat_le, slice_index}
 use Rattle.std.specs.Borrow.{Bor}
-use Rattle.std.specs.List.{AllByRecursion as All}
+use Rattle.std.specs.List.{AllByRecursion}
 use Rattle.tokens.specs.declared.bytes.Class.{Class}
 use Rattle.tokens.specs.declared.bytes.Class.TheVariants.{Letter, Digit, White, Other}
 use Rattle.tokens.specs.declared.scan.Next.{Next}
@@ -53,12 +53,12 @@ singles =
 -- the one of these marks that x spells
 abbrev pub Spelt : List Mark → List ℕ → Option Mark → Type 0
 Spelt ms x (Some m) = x ≡ spelling m
-Spelt ms x None = All (λ m. x ≢ spelling m) ms
+Spelt ms x None = AllByRecursion (λ m. x ≢ spelling m) ms
 
 -- the symbol of two bytes at the front, and the bytes after it
 abbrev pub Double : List ℕ → Option (Mark × Bor (List ℕ)) → Type 0
 Double bs (Some s) = (1 < length bs) × (slice_index bs 0 ∷ slice_index bs 1 ∷ [] ≡ spelling s.0) × (s.1.now ≡ rest 2 bs)
-Double bs None = All (λ m. Front (spelling m) bs → ⊥) doubles
+Double bs None = AllByRecursion (λ m. Front (spelling m) bs → ⊥) doubles
 
 -- ---- parts
 

@@ -1,5 +1,5 @@
 ghost use Rattle.std.specs.Prelude.{◌≡◌, ◌+◌, ◌-◌, ◌*◌, ◌<◌, ◌≤◌, true, length, codes, slice_index};
-ghost use Rattle.std.specs.List.{AllByRecursion as All};
+ghost use Rattle.std.specs.List.{AllByRecursion};
 ghost use Rattle.tokens.specs.Lexemes.{letter, digit, decimal, Front};
 ghost use Rattle.tokens.specs.Scanning.{class, limited, Stands};
 
@@ -48,7 +48,7 @@ fn with_digit(value: u32, byte: u8) -> Option<u32>
 
 // The number that the digits write, unless it is too large.
 fn value_of(digits: &[u8]) -> Option<u32>
-    requires { All (λ d. digit d ≡ true) digits.now }
+    requires { AllByRecursion (λ d. digit d ≡ true) digits.now }
     ensures { result ≡ limited (decimal digits.now) }
 {
     let mut value = 0;
