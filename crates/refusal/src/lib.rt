@@ -1,7 +1,11 @@
 #![tactic(auto)]
 
-ghost use Rattle.std.specs.Prelude.{◌≡◌};
+ghost use Rattle.std.specs.Prelude.{◌≡◌, Some};
 ghost use Rattle.refusal.specs.Card.{number_of};
+ghost use Rattle.refusal.specs.Faults.{refusal, line_of};
+
+use std::error::Error;
+use std::fmt;
 
 // Why a call refuses. docs/refusals.md says when each is given.
 #[derive(Clone, Copy, PartialEq, Eq, Debug)]
@@ -48,4 +52,27 @@ impl Reason {
     {
         self as u8
     }
+
+    // The refusal for this reason at a place.
+    pub fn at(self, place: usize) -> Refusal
+        ensures { result ≡ refusal self place }
+    {
+        Refusal {
+            reason: self,
+            place,
+        }
+    }
 }
+
+// The line of a refusal that other tools read.
+impl fmt::Display for Refusal {
+    ghost output = { λ r. Some (line_of r) };
+
+    fn fmt<W: fmt::Write>(&self, f: &mut fmt::Formatter<W>) -> fmt::Result {
+        let number = self.reason.number();
+        let place = self.place;
+        write!(f, "refused {number} at {place}")
+    }
+}
+
+impl Error for Refusal {}
