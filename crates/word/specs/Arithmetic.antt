@@ -1,4 +1,4 @@
-use Rattle.std.specs.Prelude.{◌≡◌, Bool, true, cond, ◌&&◌, ℤ, pos, ◌+ℤ◌, ◌-ℤ◌, ◌*ℤ◌, neg_ℤ, Some, None, Option, int_div, int_le, int_lt}
+use Rattle.std.specs.Prelude.{◌≡◌, Bool, true, if◌then◌else◌, ◌&&◌, ℤ, pos, ◌+ℤ◌, ◌-ℤ◌, ◌*ℤ◌, neg_ℤ, Some, None, Option, int_div, int_le, int_lt}
 use Rattle.std.specs.Int.{int_wrap, w32}
 
 -- the signed number of 32 bits that a number wraps to
@@ -19,7 +19,7 @@ is_zero a = int_le a (pos 0) && int_le (pos 0) a
 
 -- the fraction is dropped towards zero, and there is no quotient by 0
 abbrev pub quotient : ℤ → ℤ → Option ℤ
-quotient a b = cond (is_zero b) None (Some (word (int_div a b)))
+quotient a b = if is_zero b then None else Some (word (int_div a b))
 
 -- the true order, whatever the difference wraps to
 abbrev pub less : ℤ → ℤ → Bool

@@ -1,43 +1,24 @@
-#![tactic(auto)]
+#![tactic(auto, using(std::proofs::lemmas::Int::wraps))]
 
-ghost use Rattle.std.specs.Prelude.{◌≡◌, pos, ◌*ℤ◌};
-ghost use Rattle.word.specs.Arithmetic.{word, sum, difference, product, quotient, less, Samples};
-
-fn wrap(exact: i64) -> i32
-    ensures { result ≡ word exact }
-{
-    (exact.rem_euclid(0x1_0000_0000) as u32).cast_signed()
-}
+ghost use Rattle.std.specs.Prelude.{◌≡◌};
+ghost use Rattle.word.specs.Arithmetic.{sum, difference, product, quotient, less, Samples};
 
 pub fn add(a: i32, b: i32) -> i32
     ensures { result ≡ sum a b }
 {
-    wrap(a as i64 + b as i64)
+    a.wrapping_add(b)
 }
 
 pub fn sub(a: i32, b: i32) -> i32
     ensures { result ≡ difference a b }
 {
-    wrap(a as i64 - b as i64)
-}
-
-fn exact_product(a: i32, b: i32) -> i64
-    ensures { result ≡ a *ℤ b }
-{
-    a as i64 * b as i64
+    a.wrapping_sub(b)
 }
 
 pub fn mul(a: i32, b: i32) -> i32
     ensures { result ≡ product a b }
 {
-    wrap(exact_product(a, b))
-}
-
-// The smallest number gives itself.
-fn negated(a: i32) -> i32
-    ensures { result ≡ difference (pos 0) a }
-{
-    sub(0, a)
+    a.wrapping_mul(b)
 }
 
 fn divided(a: i32, b: i32) -> Option<i32>
@@ -45,7 +26,8 @@ fn divided(a: i32, b: i32) -> Option<i32>
 {
     match b {
         0 => None,
-        -1 => Some(negated(a)),
+        // the smallest number gives itself
+        -1 => Some(sub(0, a)),
         _ => Some(a / b),
     }
 }
