@@ -37,6 +37,11 @@ live_ways = record {
   became = λ m v. record { reading = m.reading; setpoint = Some v };
 }
 
+-- an empty place takes a number, and a full one keeps its own
+abbrev pub filled : Option ℤ → ℤ → Option ℤ
+filled None v = Some v
+filled (Some w) v = Some w
+
 -- the meter gives a reading, unless one is waiting
 abbrev pub given : Live → ℤ → Live
 given m v = if_waiting m.reading m (record { reading = Some v; setpoint = m.setpoint })

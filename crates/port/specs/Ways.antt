@@ -1,4 +1,4 @@
-use Rattle.std.specs.Prelude.{◌≡◌, Bool, cond, ℤ, Some, None, Option}
+use Rattle.std.specs.Prelude.{◌≡◌, Bool, if◌then◌else◌, ℤ, Some, None, Option}
 
 -- What a port means: the number waiting or none, what the port becomes when that is taken,
 -- which numbers can be put now, and what it becomes then.
@@ -21,4 +21,4 @@ pub record Took {M : Type 0} (w : Ways M) (before : M) (reply : Option ℤ) (aft
 -- a put tells whether the number can be put; if not it changes nothing
 pub record Offered {M : Type 0} (w : Ways M) (before : M) (number : ℤ) (reply : Bool) (after : M) : Type 0 where
   pub reply_is : reply ≡ w.accepts before number
-  pub after_is : after ≡ cond (w.accepts before number) (w.became before number) before
+  pub after_is : after ≡ (if w.accepts before number then w.became before number else before)

@@ -1,14 +1,26 @@
 ghost use Rattle.std.specs.Prelude.{◌≡◌, not, is_some, None};
 ghost use Rattle.port.specs.declared.live.Live.{Live};
-ghost use Rattle.port.specs.Kinds.{live_ways, given, fetched};
+ghost use Rattle.port.specs.Kinds.{live_ways, filled, given, fetched};
 
 use crate::Port;
 
 // A port between a meter and a charger, which is its own meaning.
-#[derive(Clone, Copy)]
+#[derive(Clone, Copy, PartialEq, Eq, Debug)]
 pub struct Live {
     reading: Option<i32>,
     setpoint: Option<i32>,
+}
+
+// Puts a number in an empty place, and says whether it was empty.
+fn fill(place: &mut Option<i32>, v: i32) -> bool
+    ensures reply { result ≡ not (is_some place.old) }
+    ensures place { place.new ≡ filled place.old v }
+{
+    if place.is_some() {
+        return false;
+    }
+    *place = Some(v);
+    true
 }
 
 impl Live {
@@ -26,11 +38,7 @@ impl Live {
         ensures reply { result ≡ not (is_some self.old.reading) }
         ensures port { self.new ≡ given self.old v }
     {
-        if self.reading.is_some() {
-            return false;
-        }
-        self.reading = Some(v);
-        true
+        fill(&mut self.reading, v)
     }
 
     // The charger fetches the set point, or none.
@@ -38,9 +46,7 @@ impl Live {
         ensures reply { result ≡ self.old.setpoint }
         ensures port { self.new ≡ fetched self.old }
     {
-        let setpoint = self.setpoint;
-        self.setpoint = None;
-        setpoint
+        self.setpoint.take()
     }
 }
 
@@ -52,16 +58,10 @@ impl Port for Live {
     ghost ways = { live_ways };
 
     fn take(&mut self) -> Option<i32> {
-        let reading = self.reading;
-        self.reading = None;
-        reading
+        self.reading.take()
     }
 
     fn put(&mut self, v: i32) -> bool {
-        if self.setpoint.is_some() {
-            return false;
-        }
-        self.setpoint = Some(v);
-        true
+        fill(&mut self.setpoint, v)
     }
 }

@@ -1,4 +1,4 @@
-ghost use Rattle.std.specs.Prelude.{◌≡◌, ◌+◌, ◌-◌, ◌<◌, [], ◌∷◌, ◌++◌, length, take};
+ghost use Rattle.std.specs.Prelude.{◌≡◌, ◌+◌, ◌-◌, ◌<◌, ◌≤◌, [], ◌∷◌, ◌++◌, length, take};
 ghost use Rattle.port.specs.Kinds.{Recorded, recorded, record_ways};
 
 use crate::Port;
@@ -10,20 +10,8 @@ pub struct Record<'r, 'l> {
     unread: &'r [i32],
     log: &'l mut [i32],
     count: usize,
-}
-
-// How many numbers stand in the log; there is no ghost field beside a `&mut` to say that `count` does not pass it.
-fn filled(log: &[i32], count: usize) -> usize
-    ensures { result ≡ length (take count log.now) }
-{
-    count.min(log.len())
-}
-
-fn append(log: &mut [i32], count: usize, v: i32)
-    requires { count < length log.old }
-    ensures { take (count + 1) log.new ≡ take count log.old ++ (v ∷ []) }
-{
-    log[count] = v;
+    ghost taken: { length unread.now ≤ total },
+    ghost within: { count ≤ length log.now },
 }
 
 impl<'r, 'l> Record<'r, 'l> {
@@ -46,14 +34,21 @@ impl<'r, 'l> Record<'r, 'l> {
     pub fn taken(&self) -> usize
         ensures { result ≡ self.now.total - length self.now.unread.now }
     {
-        self.total.saturating_sub(self.unread.len())
+        self.total - self.unread.len()
+    }
+
+    // The numbers that were put.
+    fn filled(&self) -> &[i32]
+        ensures { result.now ≡ take self.now.count self.now.log.now }
+    {
+        &self.log[0..self.count]
     }
 
     // How many numbers were put.
     pub fn written(&self) -> usize
         ensures { result ≡ length (take self.now.count self.now.log.now) }
     {
-        filled(self.log, self.count)
+        self.filled().len()
     }
 }
 
@@ -71,12 +66,11 @@ impl Port for Record<'_, '_> {
     }
 
     fn put(&mut self, v: i32) -> bool {
-        let count = self.count;
-        if count >= self.log.len() {
+        if self.count == self.log.len() {
             return false;
         }
-        append(self.log, count, v);
-        self.count = count + 1;
+        self.log[self.count] = v;
+        self.count += 1;
         true
     }
 }
