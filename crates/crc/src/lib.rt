@@ -30,12 +30,11 @@ pub fn crc16(bytes: &[u8]) -> u16
     register
 }
 
-// The two bytes at `i`, high byte first.
-fn u16_at(bytes: &[u8], i: usize) -> u16
-    requires { i + 1 < length bytes.now }
-    ensures { result ≡ slice_index bytes.now i * 256 + slice_index bytes.now (i + 1) }
+// The CRC that two bytes hold, high byte first.
+fn stored(check: &[u8; 2]) -> u16
+    ensures { result ≡ slice_index check.now 0 * 256 + slice_index check.now 1 }
 {
-    u16::from_be_bytes([bytes[i], bytes[i + 1]])
+    u16::from_be_bytes(*check)
 }
 
 // Whether the last two bytes are the CRC of those before them.
@@ -43,9 +42,8 @@ pub fn is_sealed(text: &[u8]) -> bool
     ensures value { result ≡ sealed text.now }
     ensures burst { BurstDetected text.now }
 {
-    if text.len() < 2 {
+    let Some((covered, check)) = text.split_last_chunk::<2>() else {
         return false;
-    }
-    let end = text.len() - 2;
-    crc16(&text[0..end]) == u16_at(text, end)
+    };
+    crc16(covered) == stored(check)
 }
