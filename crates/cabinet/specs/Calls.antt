@@ -1,16 +1,16 @@
-use Rattle.std.specs.Prelude.{ℕ, Bool, cond, not, ◌&&◌, ◌||◌, List, ◌++◌, length, take, drop, ℤ, Ok, Err, Result, ◌==◌, nat_le}
+use Rattle.std.specs.Prelude.{ℕ, Bool, if◌then◌else◌, not, ◌&&◌, ◌||◌, List, ◌++◌, length, take, drop, ℤ, Ok, Err, Result, ◌==◌, nat_le}
 use Rattle.refusal.specs.declared.Refusal.{Refusal}
 use Rattle.refusal.specs.declared.Reason.TheVariants.{MemorySize, GrantSize, StoreMismatch}
+use Rattle.refusal.specs.Faults.{refusal, unless}
 use Rattle.port.specs.Ways.{Ways}
 use Rattle.machine.specs.declared.instruction.Instruction.{Instruction}
 use Rattle.machine.specs.declared.grant.Ran.{Ran}
 use Rattle.machine.specs.Machine.{start}
 use Rattle.machine.specs.Run.{Outcome, run_over}
 use Rattle.image.specs.Layout.{layout}
-use Rattle.image.specs.Writing.{refusal}
-use Rattle.image.specs.Reading.{length_fault, read_reply, code_of, unless}
+use Rattle.image.specs.Reading.{length_fault, read_reply, code_of}
 use Rattle.cabinet.specs.declared.Empty.{Empty}
-use Rattle.cabinet.specs.declared.Loaded.{Loaded}
+use Rattle.cabinet.specs.Kept.{Kept}
 use Rattle.cabinet.specs.declared.Refused.{Refused}
 use Rattle.cabinet.specs.declared.Started.{Started}
 
@@ -18,7 +18,7 @@ use Rattle.cabinet.specs.declared.Started.{Started}
 abbrev pub load_reply : List ℕ → ℕ → ℕ → Result ℕ Refusal
 load_reply image slots cells =
     unless (length_fault layout (length image))
-    (cond (nat_le 16 cells && nat_le cells 16384) (read_reply layout image slots) (Err (refusal MemorySize 0)))
+    (if nat_le 16 cells && nat_le cells 16384 then read_reply layout image slots else Err (refusal MemorySize 0))
 
 -- what load answers and leaves
 pub record Loading : Type 0 where
@@ -43,17 +43,17 @@ load_outcome empty image code memory = elim (load_reply image (length code) (len
 ]
 
 -- a store is not of the length that it had at load
-abbrev pub mismatched : Loaded → List Instruction → List ℤ → Bool
+abbrev pub mismatched : Kept → List Instruction → List ℤ → Bool
 mismatched l code memory = not (length code == l.slots) || not (length memory == l.cells)
 
 -- what run answers and leaves
 pub record Running (M : Type 0) : Type 0 where
   pub result : Result Ran Refusal
-  pub cabinet : Loaded
+  pub cabinet : Kept
   pub memory : List ℤ
   pub port : M
 
-abbrev pub went : {M : Type 0} → Loaded → Outcome M → Running M
+abbrev pub went : {M : Type 0} → Kept → Outcome M → Running M
 went l o = record {
   result = Ok (record { stop = o.stop; steps = o.steps });
   cabinet = record { registers = o.state.registers; count = l.count; slots = l.slots; cells = l.cells };
@@ -61,28 +61,27 @@ went l o = record {
   port = o.port;
 }
 
-abbrev pub stayed : {M : Type 0} → Refusal → Loaded → List ℤ → M → Running M
+abbrev pub stayed : {M : Type 0} → Refusal → Kept → List ℤ → M → Running M
 stayed e l memory m = record { result = Err e; cabinet = l; memory = memory; port = m }
 
-abbrev pub run_outcome : {M : Type 0} → Ways M → Loaded → List Instruction → List ℤ → M → ℕ → Running M
+abbrev pub run_outcome : {M : Type 0} → Ways M → Kept → List Instruction → List ℤ → M → ℕ → Running M
 run_outcome w l code memory m grant =
-    cond (mismatched l code memory) (stayed (refusal StoreMismatch 0) l memory m)
-    (cond (nat_le 1 grant && nat_le grant 1000000)
-    (went l (run_over w (take l.count code) grant (record { registers = l.registers; cells = memory }) m))
-    (stayed (refusal GrantSize 0) l memory m))
+    if mismatched l code memory then stayed (refusal StoreMismatch 0) l memory m
+    else if nat_le 1 grant && nat_le grant 1000000
+    then went l (run_over w (take l.count code) grant (record { registers = l.registers; cells = memory }) m)
+    else stayed (refusal GrantSize 0) l memory m
 
 -- what restart answers and leaves
 pub record Restarting : Type 0 where
   pub result : Result (Unit {0}) Refusal
-  pub cabinet : Loaded
+  pub cabinet : Kept
   pub memory : List ℤ
 
-abbrev pub restart_outcome : Loaded → List Instruction → List ℤ → Restarting
+abbrev pub restart_outcome : Kept → List Instruction → List ℤ → Restarting
 restart_outcome l code memory =
-    cond (mismatched l code memory)
-    (record { result = Err (refusal StoreMismatch 0); cabinet = l; memory = memory })
-    (record {
+    if mismatched l code memory then record { result = Err (refusal StoreMismatch 0); cabinet = l; memory = memory }
+    else record {
       result = Ok tt;
       cabinet = record { registers = (start (length memory)).registers; count = l.count; slots = l.slots; cells = l.cells };
       memory = (start (length memory)).cells;
-    })
+    }

@@ -1,16 +1,19 @@
 #![tactic(auto)]
 
-ghost use Rattle.std.specs.Prelude.{◌≡◌, ◌<◌, ◌≤◌, [], length};
+ghost use Rattle.std.specs.Prelude.{◌≡◌, ◌<◌, length, if◌then◌else◌, Ok, Err};
+ghost use Rattle.refusal.specs.Faults.{refusal};
+ghost use Rattle.refusal.specs.declared.Reason.TheVariants.{StoreMismatch};
 ghost use Rattle.image.specs.Layout.{layout};
 ghost use Rattle.image.specs.Reading.{code_after};
 ghost use Rattle.machine.specs.Machine.{start};
-ghost use Rattle.cabinet.specs.Calls.{load_reply, load_outcome, run_outcome, restart_outcome};
+ghost use Rattle.cabinet.specs.Calls.{load_reply, load_outcome, mismatched, run_outcome, restart_outcome};
 
 use image::{block_count, read};
 use machine::Ran;
 use machine::instruction::Instruction;
 use port::Port;
 use refusal::{Reason, Refusal};
+use std::marker::Model;
 
 // The sizes of memory that a cabinet can have, and the most steps of a grant.
 const SMALLEST: usize = 16;
@@ -27,7 +30,19 @@ pub struct Loaded {
     registers: [i32; 8],
     count: usize,
     slots: usize,
-    cells: u16,
+    cells: usize,
+}
+
+impl Model for Loaded {
+    ghost use Rattle.std.specs.Prelude.{◌≤◌};
+    ghost use Rattle.cabinet.specs.Kept.{Kept};
+
+    ghost Value = { Kept };
+
+    ghost view = { λ l. record { registers = l.registers; count = l.count; slots = l.slots; cells = l.cells } };
+
+    // The code store has a place for each instruction, and the memory a right size.
+    ghost invariant = { λ l. (l.count ≤ l.slots) × (l.cells ≤ 16384) };
 }
 
 // A refused load gives the cabinet back.
@@ -48,11 +63,8 @@ fn prepare(image: &[u8], code: &mut [Instruction], cells: usize) -> Result<usize
     ensures store { code.new ≡ code_after layout image.now code.old result }
 {
     let _blocks = block_count(image)?;
-    if cells < SMALLEST || cells > LARGEST {
-        return Err(Refusal {
-            reason: Reason::MemorySize,
-            place: 0,
-        });
+    if !(SMALLEST..=LARGEST).contains(&cells) {
+        return Err(Reason::MemorySize.at(0));
     }
     read(image, code)
 }
@@ -102,7 +114,7 @@ impl Empty {
                     registers: [0; 8],
                     count,
                     slots: code.len(),
-                    cells: cells as u16,
+                    cells,
                 };
                 Ok(Started { cabinet, count })
             }
@@ -111,6 +123,16 @@ impl Empty {
 }
 
 impl Loaded {
+    // The stores must be of the lengths that they had at the load.
+    fn check_stores(&self, code: &[Instruction], memory: &[i32]) -> Result<(), Refusal>
+        ensures { result ≡ (if mismatched self.now code.now memory.now then Err (refusal StoreMismatch 0) else Ok tt) }
+    {
+        if code.len() != self.slots || memory.len() != self.cells {
+            return Err(Reason::StoreMismatch.at(0));
+        }
+        Ok(())
+    }
+
     // Lets the machine go on for at most `grant` steps over a port.
     pub fn run<P: Port>(
         &mut self,
@@ -122,20 +144,17 @@ impl Loaded {
         ensures { record { result = result; cabinet = self.new; memory = memory.new; port = P.Port.meaning port.new }
             ≡ run_outcome P.Port.ways self.old code.now memory.old (P.Port.meaning port.old) grant }
     {
-        if code.len() != self.slots || memory.len() != self.cells as usize {
-            return Err(Refusal {
-                reason: Reason::StoreMismatch,
-                place: 0,
-            });
+        self.check_stores(code, memory)?;
+        if !(1..=GRANT).contains(&grant) {
+            return Err(Reason::GrantSize.at(0));
         }
-        if grant < 1 || grant > GRANT {
-            return Err(Refusal {
-                reason: Reason::GrantSize,
-                place: 0,
-            });
-        }
-        let count = self.count.min(code.len());
-        Ok(machine::run(&code[0..count], &mut self.registers, memory, port, grant))
+        Ok(machine::run(
+            &code[0..self.count],
+            &mut self.registers,
+            memory,
+            port,
+            grant,
+        ))
     }
 
     // Back to the start of the code.
@@ -143,12 +162,7 @@ impl Loaded {
         ensures { record { result = result; cabinet = self.new; memory = memory.new }
             ≡ restart_outcome self.old code.now memory.old }
     {
-        if code.len() != self.slots || memory.len() != self.cells as usize {
-            return Err(Refusal {
-                reason: Reason::StoreMismatch,
-                place: 0,
-            });
-        }
+        self.check_stores(code, memory)?;
         self.registers = [0; 8];
         clear(memory);
         Ok(())
