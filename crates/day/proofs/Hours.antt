@@ -1,8 +1,9 @@
 -- What an hour leaves: a book that matches.
-use Rattle.std.proofs.Common.{◌≡◌, ℕ, ◌+◌, ◌-◌, ◌<◌, ◌≤◌, min, Bool, true, false, cond, not, ◌&&◌, eqb, leb, List, [], ◌∷◌, ◌++◌, length, get_or, take, drop, set, ℤ, pos, Some, None, Ok, Err, Option, Result, sym, refl, ap, ◌∙◌, subst, append_assoc, arith, length-append, length-drop, length-set, Bor}
+use Rattle.std.proofs.Common.{◌≡◌, ℕ, ◌+◌, ◌-◌, ◌<◌, ◌≤◌, min, Bool, true, false, not, ◌&&◌, eqb, leb, List, [], ◌∷◌, ◌++◌, length, get_or, take, drop, set, ℤ, pos, Some, None, Ok, Err, Option, Result, sym, refl, ap, ◌∙◌, subst, append_assoc, arith, length-append, length-take, length-drop, length-set, Bor}
 use native.Mathlib.Nat.{sub-zero}
+use Rattle.std.specs.Prelude.{if◌then◌else◌}
 use lib.ListN.{length-replicate}
-use Rattle.std.proofs.lemmas.List.{take_at, take-take, take_more, take_more_set, take-append-drop, length-take-le, drop-drop, drop-set-lt}
+use Rattle.std.proofs.lemmas.List.{take_all, take_at, take-take, take_more, take_more_set, take-append-drop, length-take-le, drop-drop, drop-set-lt}
 use Rattle.std.proofs.lemmas.Bool.{or_parts, not-false, eqb-true, leb-true}
 use Rattle.refusal.specs.declared.Refusal.{Refusal}
 use Rattle.port.specs.Ways.{Ways}
@@ -11,7 +12,8 @@ use Rattle.machine.specs.Machine.{State, start}
 use Rattle.machine.specs.Run.{Outcome, run_over, none}
 use Rattle.machine.proofs.Runs.{joined, run_is_steps}
 use Rattle.image.specs.Layout.{layout}
-use Rattle.image.specs.Reading.{code_of, unless, length_fault, image_fault}
+use Rattle.refusal.specs.Faults.{unless}
+use Rattle.image.specs.Reading.{code_of, length_fault, image_fault}
 use Rattle.cabinet.specs.declared.Empty.{Empty}
 use Rattle.cabinet.specs.declared.Loaded.{Loaded}
 use Rattle.cabinet.specs.Calls.{load_reply, Loading, mismatched, Running, went, Restarting}
@@ -20,13 +22,12 @@ use Rattle.day.specs.declared.Cabinet.TheVariants.{Off, On}
 use Rattle.day.specs.declared.Command.{Command}
 use Rattle.day.specs.declared.Command.TheVariants.{Load, Run, Restart, Unload}
 use Rattle.day.specs.declared.Order.{Order}
-use Rattle.day.specs.declared.Reply.{Reply}
-use Rattle.day.specs.Answers.{Setup, Answer, unfit, load_answer, run_reply, restart_reply, answer_by, answer, slots_of, cells_of, front, whole, answer_order}
+use Rattle.day.specs.Answers.{Reply, Setup, Answer, unfit, load_answer, run_reply, restart_reply, answer_by, answer, slots_of, cells_of, front, whole, answer_order}
 use Rattle.day.specs.Book.{Book, opened, continued, Entry, entry, fed, Reached}
 use Rattle.day.specs.Book as book
-use Rattle.day.specs.Day.{Holds, Matches, Told, with_port, Hour, Day, morning, later}
+use Rattle.day.specs.Day.{Holds, Matches, Told, with_port, Hour, Day, morning, later, Worked}
 
-by_test : {A : Type 0} (P : A → Type 0) (b : Bool) (x y : A) → (b ≡ true → P x) → (b ≡ false → P y) → P (cond b x y)
+by_test : {A : Type 0} (P : A → Type 0) (b : Bool) (x y : A) → (b ≡ true → P x) → (b ≡ false → P y) → P (if b then x else y)
 by_test P true x y f g = f refl
 by_test P false x y f g = g refl
 
@@ -49,7 +50,7 @@ start_length n = length-set _ 0 _ ∙ length-replicate n (pos 0)
 
 -- a granted load gives the number of the image's instructions, for which the code store has room
 test_passed : (f g : Option Refusal) (a b : Bool) (n m : ℕ) (x y : Refusal)
-    → unless f (cond a (unless g (cond b (Ok n) (Err x))) (Err y)) ≡ Ok m → (m ≡ n) × (b ≡ true)
+    → unless f (if a then unless g (if b then Ok n else Err x) else Err y) ≡ Ok m → (m ≡ n) × (b ≡ true)
 test_passed None None true true n m x y e = (cc, refl)
 test_passed None None true false n m x y e = let z : ◌≡◌ {A = ℕ} 0 1 = cc in absurd (omega arith)
 test_passed None (Some g) true b n m x y e = let z : ◌≡◌ {A = ℕ} 0 1 = cc in absurd (omega arith)
@@ -269,3 +270,22 @@ order_is {M} w o s i j a p q e =
     ap (g (i - 0) (j - 0)) e
     ∙ ap (λ u. g u (j - 0) (answer w o.command (f u (j - 0)))) x
     ∙ ap (λ v. g (slots_of o s) v (answer w o.command (f (slots_of o s) v))) y
+
+-- a day through all the orders for which there is room
+pub worked : {M O P : Type 0} {w : Ways M} {meaning : P → M} {touched : O → P → O → P → Type 0} {o₀ o : O} {p₀ p : P} {s₀ s : Setup M}
+    {b : Option Book} (cs : List Order) (rs rs' : List Reply) (n i : ℕ) → n ≡ min (length cs) (length rs)
+    → i ≤ length (take n cs) → length (take n cs) ≤ i → drop i rs' ≡ drop i rs
+    → Day w meaning touched o₀ p₀ s₀ (take i (take n cs)) (take i rs') o p s b
+    → Worked w meaning touched o₀ p₀ s₀ cs rs rs' o p s
+worked {w = w} {meaning} {touched} {o₀} {o} {p₀} {p} {s₀} {s} {b} cs rs rs' n i count low high rest day =
+    let few = length-take n cs in
+    let all : i ≡ n = omega (arith, few) in
+    let whole : take i (take n cs) ≡ take n cs = take_all i (take n cs) high in
+    record {
+      book = b;
+      day =
+          subst (λ k. Day w meaning touched o₀ p₀ s₀ (take k cs) (take k rs') o p s b) count
+          (subst (λ k. Day w meaning touched o₀ p₀ s₀ (take n cs) (take k rs') o p s b) all
+          (subst (λ xs. Day w meaning touched o₀ p₀ s₀ xs (take i rs') o p s b) whole day));
+      rest = subst (λ k. drop k rs' ≡ drop k rs) (all ∙ count) rest;
+    }

@@ -11,8 +11,14 @@ use Rattle.day.specs.declared.Cabinet.TheVariants.{Off, On}
 use Rattle.day.specs.declared.Command.{Command}
 use Rattle.day.specs.declared.Command.TheVariants.{Load, Run, Restart, Unload}
 use Rattle.day.specs.declared.Order.{Order}
-use Rattle.day.specs.declared.Reply.{Reply}
-use Rattle.day.specs.declared.Reply.TheVariants as reply
+use Rattle.day.specs.declared.Done.{Done}
+use Rattle.day.specs.declared.Done.TheVariants as done
+use Rattle.day.specs.declared.Denial.{Denial}
+use Rattle.day.specs.declared.Denial.TheVariants.{Unfit, Refused as Turned}
+
+-- what an order is answered
+abbrev pub Reply : Type 0
+Reply = Result Done Denial
 
 -- A cabinet with its stores and the meaning of its port.
 pub record Setup (M : Type 0) : Type 0 where
@@ -27,21 +33,21 @@ pub record Answer (M : Type 0) : Type 0 where
   pub setup : Setup M
 
 abbrev pub unfit : {M : Type 0} → Setup M → Answer M
-unfit s = record { reply = reply.Unfit; setup = s }
+unfit s = record { reply = Err Unfit; setup = s }
 
 abbrev pub load_answer : {M : Type 0} → Result Started Refused → List Instruction → List ℤ → M → Answer M
 load_answer (Ok x) code memory m =
-    record { reply = reply.Loaded x.count; setup = record { cabinet = On x.cabinet; code = code; memory = memory; port = m } }
+    record { reply = Ok (done.Loaded x.count); setup = record { cabinet = On x.cabinet; code = code; memory = memory; port = m } }
 load_answer (Err x) code memory m =
-    record { reply = reply.Refused x.refusal; setup = record { cabinet = Off x.cabinet; code = code; memory = memory; port = m } }
+    record { reply = Err (Turned x.refusal); setup = record { cabinet = Off x.cabinet; code = code; memory = memory; port = m } }
 
 abbrev pub run_reply : Result Ran Refusal → Reply
-run_reply (Ok t) = reply.Ran t
-run_reply (Err e) = reply.Refused e
+run_reply (Ok t) = Ok (done.Ran t)
+run_reply (Err e) = Err (Turned e)
 
 abbrev pub restart_reply : Result (Unit {0}) Refusal → Reply
-restart_reply (Ok _) = reply.Restarted
-restart_reply (Err e) = reply.Refused e
+restart_reply (Ok _) = Ok done.Restarted
+restart_reply (Err e) = Err (Turned e)
 
 -- What each command is answered in each state: the call that the state has, or that it has none.
 abbrev pub answer_by : {M : Type 0} → Ways M → Cabinet → Command → Setup M → Answer M
@@ -66,7 +72,7 @@ answer_by w (On l) Restart s =
     }
 answer_by w (On l) Unload s =
     record {
-      reply = reply.Unloaded;
+      reply = Ok done.Unloaded;
       setup = record { cabinet = Off (record {}); code = s.code; memory = s.memory; port = s.port };
     }
 

@@ -1,4 +1,4 @@
-use Rattle.std.specs.Prelude.{ℕ, ◌+◌, Bool, true, false, cond, List, [], ◌++◌, Some, None, Option}
+use Rattle.std.specs.Prelude.{ℕ, ◌+◌, List, [], ◌++◌, Some, None, Option, if◌then◌else◌, is_ok}
 use Rattle.port.specs.Ways.{Ways}
 use Rattle.machine.specs.declared.instruction.Instruction.{Instruction}
 use Rattle.machine.specs.declared.stop.Stop.{Stop}
@@ -8,8 +8,7 @@ use Rattle.image.specs.Layout.{layout}
 use Rattle.image.specs.Reading.{code_of}
 use Rattle.day.specs.declared.Command.{Command}
 use Rattle.day.specs.declared.Command.TheVariants.{Load, Run, Restart, Unload}
-use Rattle.day.specs.declared.Reply.{Reply}
-use Rattle.day.specs.declared.Reply.TheVariants as reply
+use Rattle.day.specs.Answers.{Reply}
 
 -- The day book: a machine with its code and number of cells, and since its start the events, the steps and the last stop.
 pub record Book : Type 0 where
@@ -40,14 +39,6 @@ pub data Entry (M : Type 0) : Type 0 where
   run : ℕ → M → Entry M
   restart other : Entry M
 
-abbrev pub granted : Reply → Bool
-granted reply.Unfit = false
-granted (reply.Loaded n) = true
-granted (reply.Ran t) = true
-granted reply.Restarted = true
-granted reply.Unloaded = true
-granted (reply.Refused e) = false
-
 abbrev pub asked : {M : Type 0} → Command → ℕ → M → Entry M
 asked (Load image) cells m = load (code_of layout image.now) cells
 asked (Run grant) cells m = run grant m
@@ -56,7 +47,7 @@ asked Unload cells m = other
 
 -- the entry of a command, of its reply, of the cells and the port's meaning that were handed in
 abbrev pub entry : {M : Type 0} → Command → Reply → ℕ → M → Entry M
-entry c r cells m = cond (granted r) (asked c cells m) other
+entry c r cells m = if is_ok r then asked c cells m else other
 
 abbrev pub fed : {M : Type 0} → Ways M → Entry M → Option Book → Option Book
 fed w (load code size) b = Some (opened code size)

@@ -1,4 +1,4 @@
-use Rattle.std.specs.Prelude.{◌≡◌, ◌≤◌, min, List, [], ◌∷◌, ◌++◌, length, take, drop, ℤ, Some, None, Option}
+use Rattle.std.specs.Prelude.{◌≡◌, ◌≤◌, min, List, [], ◌∷◌, ◌++◌, length, take, drop, ℤ, Some, None, Ok, Option}
 use Rattle.port.specs.Ways.{Ways}
 use Rattle.machine.specs.declared.instruction.Instruction.{Instruction}
 use Rattle.machine.specs.Run.{run_over}
@@ -6,9 +6,8 @@ use Rattle.cabinet.specs.declared.Loaded.{Loaded}
 use Rattle.day.specs.declared.Cabinet.{Cabinet}
 use Rattle.day.specs.declared.Cabinet.TheVariants.{Off, On}
 use Rattle.day.specs.declared.Order.{Order}
-use Rattle.day.specs.declared.Reply.{Reply}
-use Rattle.day.specs.declared.Reply.TheVariants as reply
-use Rattle.day.specs.Answers.{Setup, answer_order, cells_of}
+use Rattle.day.specs.declared.Done.TheVariants as done
+use Rattle.day.specs.Answers.{Reply, Setup, answer_order, cells_of}
 use Rattle.day.specs.Book.{Book, Entry, load, run, restart, other, entry, fed, Reached}
 
 -- a loaded cabinet has the registers, the instructions and the cells of the book's machine
@@ -30,10 +29,10 @@ abbrev pub Told : {M : Type 0} → Ways M → Entry M → Option Book → Reply 
 Told w (load code size) b r after = Unit {0}
 Told w (run grant m) b r after =
     (p : Book) × (b ≡ Some p)
-    × (r ≡ reply.Ran (record {
+    × (r ≡ Ok (done.Ran (record {
       stop = (run_over w p.code grant p.state m).stop;
       steps = (run_over w p.code grant p.state m).steps;
-    }))
+    })))
     × (after ≡ (run_over w p.code grant p.state m).port)
 Told w restart b r after = Unit {0}
 Told w other b r after = Unit {0}

@@ -1,9 +1,9 @@
 #![tactic(auto)]
 
 ghost use Rattle.std.specs.Prelude.{◌≡◌, min};
-ghost use Rattle.day.specs.Answers.{answer, answer_by, answer_order};
+ghost use Rattle.day.specs.Answers.{answer, answer_order};
 ghost use Rattle.day.specs.Day.{Worked};
-ghost use Rattle.day.specs.declared.Cabinet.TheVariants.{Off, On};
+ghost use Rattle.day.specs.declared.Cabinet.TheVariants.{Off};
 
 use cabinet::{Empty, Loaded, Refused, Started};
 use machine::Ran;
@@ -40,90 +40,71 @@ pub struct Order<'a> {
     pub cells: usize,
 }
 
-// What an order is answered; a command that the cabinet's state does not have is unfit.
-#[derive(Clone, Copy)]
-pub enum Reply {
-    Unfit,
+// What a granted order did.
+#[derive(Clone, Copy, PartialEq, Eq, Debug)]
+pub enum Done {
     Loaded(usize),
     Ran(Ran),
     Restarted,
     Unloaded,
+}
+
+// Why an order is denied: the cabinet's state does not have the command, or the call refuses.
+#[derive(Clone, Copy, PartialEq, Eq, Debug)]
+pub enum Denial {
+    Unfit,
     Refused(Refusal),
 }
+
+pub type Reply = Result<Done, Denial>;
 
 struct Answered {
     cabinet: Cabinet,
     reply: Reply,
 }
 
-fn obey_loaded<P: Port>(
-    mut loaded: Loaded,
-    command: &Command,
-    code: &[Instruction],
-    memory: &mut [i32],
-    port: &mut P,
-) -> Answered
-    ensures { record { reply = result.reply; setup = record { cabinet = result.cabinet; code = code.now; memory = memory.new; port = P.Port.meaning port.new } } ≡ answer_by P.Port.ways (On loaded) command.now (record { cabinet = On loaded; code = code.now; memory = memory.old; port = P.Port.meaning port.old }) }
-{
-    match command {
-        Command::Load(_) => Answered {
-            cabinet: Cabinet::On(loaded),
-            reply: Reply::Unfit,
-        },
-        Command::Run(grant) => {
-            let reply = match loaded.run(code, memory, port, *grant) {
-                Ok(ran) => Reply::Ran(ran),
-                Err(refusal) => Reply::Refused(refusal),
-            };
-            Answered {
-                cabinet: Cabinet::On(loaded),
-                reply,
-            }
-        }
-        Command::Restart => {
-            let reply = match loaded.restart(code, memory) {
-                Ok(()) => Reply::Restarted,
-                Err(refusal) => Reply::Refused(refusal),
-            };
-            Answered {
-                cabinet: Cabinet::On(loaded),
-                reply,
-            }
-        }
-        Command::Unload => Answered {
-            cabinet: Cabinet::Off(loaded.unload()),
-            reply: Reply::Unloaded,
-        },
-    }
-}
-
 fn obey<P: Port>(
     cabinet: Cabinet,
-    command: &Command,
+    command: Command,
     code: &mut [Instruction],
     memory: &mut [i32],
     port: &mut P,
 ) -> Answered
-    ensures { record { reply = result.reply; setup = record { cabinet = result.cabinet; code = code.new; memory = memory.new; port = P.Port.meaning port.new } } ≡ answer P.Port.ways command.now (record { cabinet = cabinet; code = code.old; memory = memory.old; port = P.Port.meaning port.old }) }
+    ensures { record { reply = result.reply; setup = record { cabinet = result.cabinet; code = code.new; memory = memory.new; port = P.Port.meaning port.new } } ≡ answer P.Port.ways command.entry (record { cabinet = cabinet; code = code.old; memory = memory.old; port = P.Port.meaning port.old }) }
 {
-    match cabinet {
-        Cabinet::Off(empty) => match command {
-            Command::Load(image) => match empty.load(image, code, memory) {
-                Ok(Started { cabinet, count }) => Answered {
-                    cabinet: Cabinet::On(cabinet),
-                    reply: Reply::Loaded(count),
-                },
-                Err(Refused { refusal, cabinet }) => Answered {
-                    cabinet: Cabinet::Off(cabinet),
-                    reply: Reply::Refused(refusal),
-                },
+    match (cabinet, command) {
+        (Cabinet::Off(empty), Command::Load(image)) => match empty.load(image, code, memory) {
+            Ok(Started { cabinet, count }) => Answered {
+                cabinet: Cabinet::On(cabinet),
+                reply: Ok(Done::Loaded(count)),
             },
-            _ => Answered {
-                cabinet: Cabinet::Off(empty),
-                reply: Reply::Unfit,
+            Err(Refused { refusal, cabinet }) => Answered {
+                cabinet: Cabinet::Off(cabinet),
+                reply: Err(Denial::Refused(refusal)),
             },
         },
-        Cabinet::On(loaded) => obey_loaded(loaded, command, code, memory, port),
+        (Cabinet::On(mut loaded), Command::Run(grant)) => {
+            let ran = loaded.run(code, memory, port, grant);
+            Answered {
+                cabinet: Cabinet::On(loaded),
+                reply: ran.map(Done::Ran).map_err(Denial::Refused),
+            }
+        }
+        (Cabinet::On(mut loaded), Command::Restart) => {
+            let restarted = loaded.restart(code, memory);
+            Answered {
+                cabinet: Cabinet::On(loaded),
+                reply: restarted.map(|()| Done::Restarted).map_err(Denial::Refused),
+            }
+        }
+        (Cabinet::On(loaded), Command::Unload) => Answered {
+            cabinet: Cabinet::Off(loaded.unload()),
+            reply: Ok(Done::Unloaded),
+        },
+        (cabinet, _) => Answered {
+            cabinet,
+            reply: Err(Denial::Unfit),
+        },
     }
 }
 
@@ -140,8 +121,7 @@ fn obey_order<P: Port>(
     let cells = order.cells.min(memory.len());
     let front = &mut code[0..slots];
     let room = &mut memory[0..cells];
-    let command = &order.command;
-    obey(cabinet, command, front, room, port)
+    obey(cabinet, order.command, front, room, port)
 }
 
 // Works through a day's orders for one cabinet that is empty in the morning; others reach the port before each.
@@ -158,16 +138,14 @@ pub fn work<P: Port, O: Others<P>>(
     ensures { Worked P.Port.ways P.Port.meaning O.Others.touched others.old port.old (record { cabinet = Off empty; code = code.old; memory = memory.old; port = P.Port.meaning port.old }) orders.now replies.old replies.new others.new port.new (record { cabinet = result; code = code.new; memory = memory.new; port = P.Port.meaning port.new }) }
 {
     let mut cabinet = Cabinet::Off(empty);
-    let mut i = 0;
-    while i < orders.len() && i < replies.len() {
+    let count = orders.len().min(replies.len());
+    for (i, order) in orders[..count].iter().enumerate() {
         others.touch(port);
-        let Answered {
-            cabinet: next,
-            reply,
-        } = obey_order(cabinet, &orders[i], code, memory, port);
-        cabinet = next;
-        replies[i] = reply;
-        i += 1;
+        let answered = obey_order(cabinet, order, code, memory, port);
+        Answered {
+            cabinet,
+            reply: replies[i],
+        } = answered;
     }
     cabinet
 }

@@ -1,20 +1,29 @@
-use Rattle.std.proofs.Common.{None, refl, arith, length-set, rules}
+use Rattle.std.proofs.Common.{◌<◌, length, take, None, refl, arith, length-take, rules}
 use Rattle.day.specs.Day.{morning}
-use Rattle.day.proofs.Hours.{hour, matched, longer, past}
+use Rattle.day.proofs.Hours.{hour, matched, longer, past, worked}
 use Rattle.day.proofs.work.Goals as goal
 
 pub loop-i-init : goal.loop-i-init
-loop-i-init g c = (omega arith, omega arith, refl, None, morning)
+loop-i-init g c = (omega arith, refl, None, morning)
 
 pub loop-i-preserved : goal.loop-i-preserved
 loop-i-preserved g c =
     let l = c.loop-i in
-    let r = c.obey_order-next.result.reply in
-    let one = hour g.P.Port.ways g.P.Port.meaning g.O.Others.touched _ l.others l.port _ l.invariant.3 r _ _ _ _
-    (matched tt l.invariant.4) c.touch.ensures c.obey_order-next.ensures (search rules) refl in (
-      omega arith,
-      simp length-set (omega arith),
-      past l.replies c.args.replies.now l.i r l.invariant.2,
+    let orders = take c.min-count.result c.args.orders.now in
+    let few = length-take c.min-count.result c.args.orders.now in
+    let inner : l.i < length orders = c.loop-i-test.true in
+    let room : l.i < length l.replies = omega (arith, few, c.min-count.ensures, l.auto.replies, inner) in
+    let r = c.obey_order-answered.result.reply in
+    let one = hour g.P.Port.ways g.P.Port.meaning g.O.Others.touched _ l.others l.port _ l.invariant.2 r _ _ _ _
+    (matched tt l.invariant.3) c.touch.ensures c.obey_order-answered.ensures (search rules) refl in (
+      omega (arith, inner),
+      past l.replies c.args.replies.now l.i r l.invariant.1,
       _,
-      longer c.args.orders.now l.replies l.i _ r (omega arith) (omega arith) l.invariant.4 one,
+      longer orders l.replies l.i _ r inner room l.invariant.3 one,
     )
+
+pub returns : goal.returns
+returns g c =
+    let l = c.loop-i in
+    worked c.args.orders.now c.args.replies.now l.replies c.min-count.result l.i c.min-count.ensures l.invariant.0 (omega arith)
+    l.invariant.1 l.invariant.3
