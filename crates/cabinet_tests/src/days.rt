@@ -1,6 +1,7 @@
 use crate::samples::*;
 use cabinet::Empty;
-use day::{Cabinet, Command, Order, Others, Reply};
+use day::{Cabinet, Command, Denial, Done, Order, Others, Reply};
+use fixtures::{Row, UNTOUCHED};
 use machine::{Ran, Stop};
 use port::Live;
 use std::process::Abort;
@@ -9,29 +10,18 @@ use std::test::Fail;
 // Takes each reading on to the port.
 static ROWS: [Row; 3] = [Row(1, 0, 0, 0, 0), Row(2, 0, 0, 0, 0), Row(10, 7, 0, 0, 0)];
 
-#[derive(Clone, Copy, PartialEq, Debug)]
-enum Told {
-    Unfit,
-    Loaded(usize),
-    Ran(Ran),
-    Restarted,
-    Unloaded,
-    Refused(u8, usize),
-}
+// A reply with the number and the place of a refusal, if it is refused and not unfit.
+type Told = Result<Done, Option<(u8, usize)>>;
 
 fn told_by(reply: Reply) -> Told {
-    match reply {
-        Reply::Unfit => Told::Unfit,
-        Reply::Loaded(count) => Told::Loaded(count),
-        Reply::Ran(ran) => Told::Ran(ran),
-        Reply::Restarted => Told::Restarted,
-        Reply::Unloaded => Told::Unloaded,
-        Reply::Refused(refusal) => Told::Refused(refusal.reason.number(), refusal.place),
-    }
+    reply.map_err(|denial| match denial {
+        Denial::Unfit => None,
+        Denial::Refused(refusal) => Some((refusal.reason.number(), refusal.place)),
+    })
 }
 
 fn ran(stop: Stop, steps: u32) -> Told {
-    Told::Ran(Ran { stop, steps })
+    Ok(Done::Ran(Ran { stop, steps }))
 }
 
 // A meter that gives 1, 2, 3 and so on, one before each order; a charger that fetches and adds up.
@@ -93,7 +83,7 @@ fn work(orders: &[Order]) -> Evening {
     let mut memory = [MARK; 24];
     let mut port = Live::new();
     let mut street = QUIET;
-    let mut replies = [Reply::Unfit; 16];
+    let mut replies = [Err(Denial::Unfit); 16];
     let cabinet = day::work(
         Empty::new(),
         orders,
@@ -135,13 +125,13 @@ fn unfit_commands_are_told(rt: HostRuntime) -> Result<(), Fail> {
         &rt,
         &evening.replies,
         &[
-            Told::Unfit,
-            Told::Unfit,
-            Told::Unfit,
-            Told::Loaded(3),
-            Told::Unfit,
-            Told::Unloaded,
-            Told::Unfit,
+            Err(None),
+            Err(None),
+            Err(None),
+            Ok(Done::Loaded(3)),
+            Err(None),
+            Ok(Done::Unloaded),
+            Err(None),
         ],
     );
     assert!(rt; !evening.is_loaded);
@@ -173,14 +163,14 @@ fn refused_orders_change_nothing(rt: HostRuntime) -> Result<(), Fail> {
         &rt,
         &evening.replies,
         &[
-            Told::Refused(25, 0),
-            Told::Refused(18, 0),
-            Told::Loaded(3),
+            Err(Some((25, 0))),
+            Err(Some((18, 0))),
+            Ok(Done::Loaded(3)),
             ran(Stop::Spent, 1),
-            Told::Refused(26, 0),
-            Told::Refused(27, 0),
-            Told::Refused(27, 0),
-            Told::Refused(27, 0),
+            Err(Some((26, 0))),
+            Err(Some((27, 0))),
+            Err(Some((27, 0))),
+            Err(Some((27, 0))),
             ran(Stop::Blocked(5), 3),
         ],
     );
@@ -206,13 +196,13 @@ fn a_day_goes_on_between_meter_and_charger(rt: HostRuntime) -> Result<(), Fail> 
         &rt,
         &evening.replies,
         &[
-            Told::Loaded(3),
+            Ok(Done::Loaded(3)),
             ran(Stop::Waiting, 3),
             ran(Stop::Waiting, 3),
             ran(Stop::Waiting, 3),
-            Told::Restarted,
+            Ok(Done::Restarted),
             ran(Stop::Spent, 2),
-            Told::Unloaded,
+            Ok(Done::Unloaded),
         ],
     );
     assert!(rt; !evening.is_loaded);
@@ -234,7 +224,7 @@ fn a_day_ends_with_the_room_for_replies(rt: HostRuntime) -> Result<(), Fail> {
     let mut memory = [MARK; 24];
     let mut port = Live::new();
     let mut street = QUIET;
-    let mut replies = [Reply::Unfit; 2];
+    let mut replies = [Err(Denial::Unfit); 2];
     let cabinet = day::work(
         Empty::new(),
         &orders,
@@ -246,6 +236,6 @@ fn a_day_ends_with_the_room_for_replies(rt: HostRuntime) -> Result<(), Fail> {
     );
     assert!(rt; end(cabinet));
     assert_eq!(rt; street.visits, 2);
-    check_replies(&rt, &replies, &[Told::Loaded(3), ran(Stop::Spent, 1)]);
+    check_replies(&rt, &replies, &[Ok(Done::Loaded(3)), ran(Stop::Spent, 1)]);
     Ok(())
 }

@@ -1,4 +1,6 @@
 use crate::samples::*;
+use fixtures::Row;
+use machine::instruction::Instruction;
 use machine::{Ran, Stop};
 use port::Live;
 use std::process::Abort;
@@ -117,7 +119,7 @@ fn after(register: u8, value: i32) -> Result<[i32; 8], Fail> {
 }
 
 fn check_effect(rt: &impl Abort, effect: &Effect) -> Result<(), Fail> {
-    let code = [effect.0.instruction(); 4];
+    let code = [Instruction::from(effect.0); 4];
     let mut registers = BEFORE;
     let mut cells = NUMBERED;
     let mut port = Live::new();
@@ -137,7 +139,7 @@ fn instructions_have_their_effects(rt: HostRuntime) -> Result<(), Fail> {
 }
 
 fn check_stored(rt: &impl Abort, stored: &Stored) -> Result<(), Fail> {
-    let code = [stored.0.instruction(); 4];
+    let code = [Instruction::from(stored.0); 4];
     let mut registers = BEFORE;
     let mut cells = NUMBERED;
     let mut port = Live::new();
@@ -161,7 +163,7 @@ fn stores_change_one_cell(rt: HostRuntime) -> Result<(), Fail> {
 
 // A reading of 42 into a register.
 fn check_taking(rt: &impl Abort, register: u8) -> Result<(), Fail> {
-    let code = [Row(1, register, 0, 0, 0).instruction(); 4];
+    let code = [Instruction::from(Row(1, register, 0, 0, 0)); 4];
     let mut registers = BEFORE;
     let mut cells = NUMBERED;
     let mut port = Live::new();
@@ -182,7 +184,7 @@ fn a_reading_goes_into_a_register(rt: HostRuntime) -> Result<(), Fail> {
 }
 
 fn check_putting(rt: &impl Abort, register: u8, value: i32) -> Result<(), Fail> {
-    let code = [Row(2, register, 0, 0, 0).instruction(); 4];
+    let code = [Instruction::from(Row(2, register, 0, 0, 0)); 4];
     let mut registers = BEFORE;
     let mut cells = NUMBERED;
     let mut port = Live::new();

@@ -1,4 +1,5 @@
 use crate::samples::*;
+use fixtures::Row;
 use machine::instruction::Instruction;
 use machine::{Ran, Stop};
 use port::Record;
@@ -121,7 +122,10 @@ static SECOND: [Second; 6] = [
 
 // After LDC 0,7(0) the grant is spent, and the next run tells the stop.
 fn check_second(rt: &impl Abort, second: &Second) {
-    let code = [Row(10, 0, 0, 0, 7).instruction(), second.0.instruction()];
+    let code = [
+        Instruction::from(Row(10, 0, 0, 0, 7)),
+        Instruction::from(second.0),
+    ];
     assert_eq!(rt; run_all(&code, &[1]).ran, told(Stop::Spent, 1));
     assert_eq!(rt; run_all(&code, &[1, 1]).ran, told(second.1, 0));
     assert_eq!(rt; run_all(&code, &[2]).ran, told(second.1, 1));
@@ -144,7 +148,7 @@ fn a_stop_after_a_spent_grant_is_told_next(rt: HostRuntime) -> Result<(), Fail> 
 // Two places in the log; the third put is blocked.
 #[test]
 fn a_full_log_blocks_after_a_spent_grant(rt: HostRuntime) {
-    let code = [Row(2, 7, 0, 0, 0).instruction(); 4];
+    let code = [Instruction::from(Row(2, 7, 0, 0, 0)); 4];
     assert_eq!(rt; run_all(&code, &[2]).ran, told(Stop::Spent, 2));
     assert_eq!(rt; run_all(&code, &[2, 1]).ran, told(Stop::Blocked(3), 0));
     let left = run_all(&code, &[3]);

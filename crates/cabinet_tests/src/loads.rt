@@ -1,4 +1,5 @@
 use crate::samples::*;
+use fixtures::{Row, UNTOUCHED, are_all, refused};
 use machine::instruction::Instruction;
 use std::alloc::{AllocError, Global};
 use std::process::Abort;
@@ -10,24 +11,6 @@ static ROWS: [Row; 3] = [
     Row(0, 0, 0, 0, 0),
 ];
 
-fn are_untouched(code: &[Instruction]) -> bool {
-    for instruction in code {
-        if *instruction != UNTOUCHED {
-            return false;
-        }
-    }
-    true
-}
-
-fn are_all(value: i32, cells: &[i32]) -> bool {
-    for cell in cells {
-        if *cell != value {
-            return false;
-        }
-    }
-    true
-}
-
 // The slots of the code store, the cells of the memory, and what is told.
 #[derive(Clone, Copy)]
 struct Case(usize, usize, (u8, usize));
@@ -38,9 +21,9 @@ fn check_refused(rt: &impl Abort, heap: Global, image: &[u8], case: Case) -> Res
     let mut code = vec![in heap; UNTOUCHED; slots]?;
     let mut memory = vec![in heap; MARK; cells]?;
     let reply = load(image, code.as_mut_slice(), memory.as_mut_slice());
-    assert_eq!(rt; told(reply), Some(expected));
-    assert!(rt; are_untouched(code.as_slice()));
-    assert!(rt; are_all(MARK, memory.as_slice()));
+    assert_eq!(rt; refused(reply), Some(expected));
+    assert!(rt; are_all(&UNTOUCHED, code.as_slice()));
+    assert!(rt; are_all(&MARK, memory.as_slice()));
     Ok(())
 }
 
@@ -54,7 +37,7 @@ fn check_code(
     let front = code.get(0..3).ok_or("no front")?;
     let rest = code.get(3..slots).ok_or("no rest")?;
     assert!(rt; front == expected.as_slice());
-    assert!(rt; are_untouched(rest));
+    assert!(rt; are_all(&UNTOUCHED, rest));
     Ok(())
 }
 
@@ -74,7 +57,7 @@ fn check_granted(
     check_code(rt, heap, code.as_slice(), slots)?;
     assert_eq!(rt; memory.as_slice().first().copied(), Some(last));
     let others = memory.as_slice().get(1..cells).ok_or("no others")?;
-    assert!(rt; are_all(0, others));
+    assert!(rt; are_all(&0, others));
     Ok(())
 }
 
@@ -124,7 +107,7 @@ fn short_code_stores_are_refused(rt: HostRuntime) -> Result<(), Fail> {
 
 // An image of 63 instructions, in two blocks.
 fn two_blocks(rt: &impl Abort, heap: Global, number: u32) -> Result<Vec<u8>, Fail> {
-    let code = vec![in heap; Row(0, 0, 0, 0, 0).instruction(); 63]?;
+    let code = vec![in heap; Instruction::from(Row(0, 0, 0, 0, 0)); 63]?;
     let mut image = vec![in heap; 0; 1024]?;
     assert_eq!(rt;
         image::write(number, code.as_slice(), image.as_mut_slice())?,

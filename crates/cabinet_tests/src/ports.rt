@@ -1,4 +1,6 @@
 use crate::samples::*;
+use fixtures::Row;
+use machine::instruction::Instruction;
 use machine::{Ran, Stop};
 use port::{Ceiling, Live, Port, Record};
 
@@ -128,9 +130,9 @@ fn a_ceiling_stands_over_a_ceiling(rt: HostRuntime) {
 #[test]
 fn a_blocked_number_is_told_whole(rt: HostRuntime) {
     let code = [
-        Row(10, 0, 0, 0, 1200).instruction(),
-        Row(2, 0, 0, 0, 0).instruction(),
-        Row(2, 0, 0, 0, 0).instruction(),
+        Instruction::from(Row(10, 0, 0, 0, 1200)),
+        Instruction::from(Row(2, 0, 0, 0, 0)),
+        Instruction::from(Row(2, 0, 0, 0, 0)),
     ];
     let mut registers = [0; 8];
     let mut cells = [0; 16];

@@ -1,5 +1,7 @@
 use crate::samples::*;
 use cabinet::{Empty, Loaded, Refused, Started};
+use day::Done;
+use fixtures::{Row, UNTOUCHED};
 use machine::instruction::Instruction;
 use machine::{Ran, Stop};
 use port::Live;
@@ -39,25 +41,20 @@ enum Call {
 #[derive(Clone, Copy)]
 struct Trial(Call, usize, usize);
 
-#[derive(Clone, Copy, PartialEq, Debug)]
-enum Told {
-    Nothing,
-    Ran(Ran),
-    Restarted,
-    Refused(u8, usize),
-}
+// What a call told, with the number and the place of a refusal.
+type Told = Result<Done, (u8, usize)>;
 
 // What the last call told, and the stores and the set point at the end.
 #[derive(Clone, Copy)]
 struct Seen {
-    told: Told,
+    told: Option<Told>,
     code: [Instruction; SLOTS],
     memory: [i32; CELLS],
     setpoint: Option<i32>,
 }
 
-fn refused(refusal: Refusal) -> Told {
-    Told::Refused(refusal.reason.number(), refusal.place)
+fn card(refusal: Refusal) -> (u8, usize) {
+    (refusal.reason.number(), refusal.place)
 }
 
 fn make_call(
@@ -68,14 +65,14 @@ fn make_call(
     port: &mut Live,
 ) -> Told {
     match call {
-        Call::Run(grant) => match cabinet.run(code, memory, port, grant) {
-            Ok(ran) => Told::Ran(ran),
-            Err(refusal) => refused(refusal),
-        },
-        Call::Restart => match cabinet.restart(code, memory) {
-            Ok(()) => Told::Restarted,
-            Err(refusal) => refused(refusal),
-        },
+        Call::Run(grant) => cabinet
+            .run(code, memory, port, grant)
+            .map(Done::Ran)
+            .map_err(card),
+        Call::Restart => cabinet
+            .restart(code, memory)
+            .map(|()| Done::Restarted)
+            .map_err(card),
     }
 }
 
@@ -97,7 +94,7 @@ fn make_trials(image: &[u8], trials: &[Trial]) -> Seen {
     let mut code = [UNTOUCHED; SLOTS];
     let mut memory = [MARK; CELLS];
     let mut port = Live::new();
-    let mut told = Told::Nothing;
+    let mut told = None;
     match Empty::new().load(image, &mut code[0..10], &mut memory[0..20]) {
         Ok(
             Started {
@@ -106,12 +103,12 @@ fn make_trials(image: &[u8], trials: &[Trial]) -> Seen {
             },
         ) => {
             for trial in trials {
-                told = make_trial(&mut cabinet, trial, &code, &mut memory, &mut port);
+                told = Some(make_trial(&mut cabinet, trial, &code, &mut memory, &mut port));
             }
             cabinet.unload().retire();
         }
         Err(Refused { refusal, cabinet }) => {
-            told = refused(refusal);
+            told = Some(Err(card(refusal)));
             cabinet.retire();
         }
     }
@@ -129,15 +126,15 @@ fn run(grant: u32) -> Trial {
 }
 
 fn ran(stop: Stop, steps: u32) -> Told {
-    Told::Ran(Ran { stop, steps })
+    Ok(Done::Ran(Ran { stop, steps }))
 }
 
 fn loaded_code() -> [Instruction; SLOTS] {
     let mut code = [UNTOUCHED; SLOTS];
-    code[0] = ROWS[0].instruction();
-    code[1] = ROWS[1].instruction();
-    code[2] = ROWS[2].instruction();
-    code[3] = ROWS[3].instruction();
+    code[0] = Instruction::from(ROWS[0]);
+    code[1] = Instruction::from(ROWS[1]);
+    code[2] = Instruction::from(ROWS[2]);
+    code[3] = Instruction::from(ROWS[3]);
     code
 }
 
@@ -164,12 +161,12 @@ static WRONG: [Wrong; 12] = [
 fn check_wrong(rt: &impl Abort, image: &[u8], wrong: &Wrong) {
     let Wrong(trial, number) = *wrong;
     let seen = make_trials(image, &[trial]);
-    assert_eq!(rt; seen.told, Told::Refused(number, 0));
+    assert_eq!(rt; seen.told, Some(Err((number, 0))));
     assert_eq!(rt; seen.code, loaded_code());
     assert_eq!(rt; seen.memory, FRESH);
     assert_eq!(rt; seen.setpoint, None);
     let next = make_trials(image, &[run(1), trial, run(9)]);
-    assert_eq!(rt; next.told, ran(Stop::Halt(4), 2));
+    assert_eq!(rt; next.told, Some(ran(Stop::Halt(4), 2)));
 }
 
 #[test]
@@ -182,7 +179,7 @@ fn runs_are_refused(rt: HostRuntime) -> Result<(), Fail> {
 }
 
 fn check_used(rt: &impl Abort, seen: Seen, told: Told) {
-    assert_eq!(rt; seen.told, told);
+    assert_eq!(rt; seen.told, Some(told));
     assert_eq!(rt; seen.code, loaded_code());
     assert_eq!(rt; seen.memory, USED);
     assert_eq!(rt; seen.setpoint, Some(5));
@@ -194,7 +191,7 @@ fn runs_are_granted(rt: HostRuntime) -> Result<(), Fail> {
     let image = image_of(&rt, rt.alloc(), &ROWS)?;
     let image = image.as_slice();
     let first = make_trials(image, &[run(1)]);
-    assert_eq!(rt; first.told, ran(Stop::Spent, 1));
+    assert_eq!(rt; first.told, Some(ran(Stop::Spent, 1)));
     assert_eq!(rt; first.memory, FRESH);
     check_used(
         &rt,
@@ -228,7 +225,7 @@ fn a_restart_goes_back_to_the_start(rt: HostRuntime) -> Result<(), Fail> {
     let image = image_of(&rt, rt.alloc(), &ROWS)?;
     let image = image.as_slice();
     let seen = make_trials(image, &[run(2), RESTART]);
-    assert_eq!(rt; seen.told, Told::Restarted);
+    assert_eq!(rt; seen.told, Some(Ok(Done::Restarted)));
     assert_eq!(rt; seen.code, loaded_code());
     assert_eq!(rt; seen.memory, FRESH);
     assert_eq!(rt; seen.setpoint, None);
@@ -238,14 +235,14 @@ fn a_restart_goes_back_to_the_start(rt: HostRuntime) -> Result<(), Fail> {
         ran(Stop::Halt(4), 3),
     );
     let blocked = make_trials(image, &[run(9), RESTART, run(9)]);
-    assert_eq!(rt; blocked.told, ran(Stop::Blocked(5), 2));
+    assert_eq!(rt; blocked.told, Some(ran(Stop::Blocked(5), 2)));
     Ok(())
 }
 
 fn check_restart_refused(rt: &impl Abort, image: &[u8], slots: usize, cells: usize) {
     let wrong = Trial(Call::Restart, slots, cells);
     let seen = make_trials(image, &[run(2), wrong]);
-    assert_eq!(rt; seen.told, Told::Refused(27, 0));
+    assert_eq!(rt; seen.told, Some(Err((27, 0))));
     assert_eq!(rt; seen.code, loaded_code());
     assert_eq!(rt; seen.memory, USED);
     check_used(

@@ -1,4 +1,5 @@
 use crate::samples::*;
+use fixtures::Row;
 use machine::instruction::Instruction;
 use machine::{Ran, Stop};
 use port::{Live, Port};
@@ -122,14 +123,14 @@ fn check_stop(rt: &impl Abort, code: &[Instruction], before: [i32; 8], stop: Sto
 #[test]
 fn an_instruction_that_stops_has_no_effect(rt: HostRuntime) {
     for halting in &HALTING {
-        check_stop(&rt, &[halting.0.instruction(); 4], BEFORE, halting.1);
+        check_stop(&rt, &[Instruction::from(halting.0); 4], BEFORE, halting.1);
     }
 }
 
 // Register 7 outside of four instructions, and any place without one.
 #[test]
 fn a_place_outside_the_code_stops(rt: HostRuntime) {
-    let code = [Row(3, 0, 1, 2, 0).instruction(); 4];
+    let code = [Instruction::from(Row(3, 0, 1, 2, 0)); 4];
     for place in [-1, 4, 5, i32::MIN, i32::MAX] {
         let mut before = BEFORE;
         before[7] = place;
@@ -142,7 +143,7 @@ fn a_place_outside_the_code_stops(rt: HostRuntime) {
 // A jump behind the code is a step, and the stop comes after it.
 #[test]
 fn a_jump_out_of_the_code_is_a_step(rt: HostRuntime) {
-    let code = [Row(10, 7, 0, 0, -5).instruction()];
+    let code = [Instruction::from(Row(10, 7, 0, 0, -5))];
     let mut registers = [0; 8];
     let mut cells = NUMBERED;
     let mut port = Live::new();
@@ -161,8 +162,8 @@ fn a_jump_out_of_the_code_is_a_step(rt: HostRuntime) {
 #[test]
 fn the_cells_have_their_addresses(rt: HostRuntime) {
     let code = [
-        Row(7, 0, 0, 0, 0).instruction(),
-        Row(7, 0, 1, 0, 1).instruction(),
+        Instruction::from(Row(7, 0, 0, 0, 0)),
+        Instruction::from(Row(7, 0, 1, 0, 1)),
     ];
     let mut registers = [0; 8];
     let mut port = Live::new();
@@ -179,7 +180,7 @@ fn the_cells_have_their_addresses(rt: HostRuntime) {
 }
 
 fn check_stop_without_cells(rt: &impl Abort) {
-    let code = [Row(7, 0, 0, 0, 0).instruction()];
+    let code = [Instruction::from(Row(7, 0, 0, 0, 0))];
     let mut registers = [0; 8];
     let mut port = Live::new();
     let ran = machine::run(&code, &mut registers, &mut [], &mut port, 9);

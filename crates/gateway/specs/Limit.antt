@@ -1,4 +1,4 @@
-use Rattle.std.specs.Prelude.{ℕ, cond, List, [], ◌∷◌, ℤ, pos, Some, None, Option, ◌==◌}
+use Rattle.std.specs.Prelude.{ℕ, if◌then◌else◌, List, [], ◌∷◌, ℤ, pos, Some, None, Option, ◌==◌}
 use Rattle.machine.specs.declared.instruction.Instruction.{Instruction}
 
 abbrev pub simple : ℕ → ℤ → Instruction
@@ -11,4 +11,4 @@ limit_code limit = simple 10 limit ∷ simple 2 (pos 0) ∷ simple 0 (pos 0) ∷
 -- the number that code loads first
 abbrev pub first_loaded : List Instruction → Option ℤ
 first_loaded [] = None
-first_loaded (i ∷ is) = cond (i.op == 10) (Some i.d) None
+first_loaded (i ∷ is) = if i.op == 10 then Some i.d else None

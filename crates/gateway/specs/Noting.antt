@@ -1,4 +1,4 @@
-use Rattle.std.specs.Prelude.{ℕ, ◌+◌, ◌-◌, ◌^◌, min, cond, List, [], ◌∷◌, ◌++◌, length, take, nat_lt}
+use Rattle.std.specs.Prelude.{ℕ, ◌+◌, ◌-◌, ◌^◌, min, if◌then◌else◌, List, [], ◌∷◌, ◌++◌, length, take, nat_lt}
 
 -- Notes: the items that found a place, the places left, and how many items there were.
 pub record Noted (T : Type 0) : Type 0 where
@@ -15,7 +15,7 @@ blank room = record { items = []; room = room; seen = 0 }
 -- One item more. With no place left it is counted, and not held; the count stays within 64 bits.
 abbrev pub and_then : {T : Type 0} → Noted T → T → Noted T
 and_then n x = record {
-  items = cond (nat_lt 0 n.room) (n.items ++ (x ∷ [])) n.items;
+  items = if nat_lt 0 n.room then n.items ++ (x ∷ []) else n.items;
   room = n.room - 1;
   seen = min (n.seen + 1) (2 ^ 64 - 1);
 }

@@ -1,7 +1,7 @@
-use Rattle.std.specs.Prelude.{ℕ, ◌+◌, ◌-◌, ◌^◌, min, Some, None, Option}
+use Rattle.std.specs.Prelude.{ℕ, ◌+◌, ◌-◌, ◌^◌, min, Some, None, Ok, Err, Option}
 use Rattle.machine.specs.declared.grant.Ran.{Ran}
-use Rattle.day.specs.declared.Reply.{Reply}
-use Rattle.day.specs.declared.Reply.TheVariants as reply
+use Rattle.day.specs.declared.Done.TheVariants as done
+use Rattle.day.specs.Answers.{Reply}
 use Rattle.gateway.specs.declared.book.Book.{Book}
 
 -- a machine at its start, after so many events
@@ -18,11 +18,10 @@ went_on b ran events = record {
 
 -- The book after an order with this reply; so many events there were then.
 abbrev pub entered : Option Book → Reply → ℕ → Option Book
-entered b (reply.Loaded n) events = Some (begun events)
-entered None reply.Restarted events = None
-entered (Some b) reply.Restarted events = Some (begun events)
-entered None (reply.Ran ran) events = None
-entered (Some b) (reply.Ran ran) events = Some (went_on b ran events)
-entered b reply.Unfit events = b
-entered b reply.Unloaded events = b
-entered b (reply.Refused e) events = b
+entered b (Ok (done.Loaded n)) events = Some (begun events)
+entered None (Ok done.Restarted) events = None
+entered (Some b) (Ok done.Restarted) events = Some (begun events)
+entered None (Ok (done.Ran ran)) events = None
+entered (Some b) (Ok (done.Ran ran)) events = Some (went_on b ran events)
+entered b (Ok done.Unloaded) events = b
+entered b (Err denial) events = b

@@ -41,10 +41,7 @@ fn parse_number<T: FromStr>(text: &str) -> Result<T, Fault>
 where
     T::Err: Drop,
 {
-    match text.parse::<T>() {
-        Ok(number) => Ok(number),
-        Err(_) => Err(Fault::Usage),
-    }
+    text.parse::<T>().map_err(|_| Fault::Usage)
 }
 
 fn parse_size(text: &str) -> Result<usize, Fault>
@@ -62,14 +59,12 @@ fn parse_list<T: FromStr + Drop>(heap: Global, text: &str) -> Result<Vec<T>, Fau
 where
     T::Err: Drop,
 {
-    let mut numbers = Vec::new(heap);
     if text.is_empty() {
-        return Ok(numbers);
+        return Ok(Vec::new(heap));
     }
-    for word in text.split(',') {
-        numbers.push(parse_number::<T>(word)?)?;
-    }
-    Ok(numbers)
+    text.split(',')
+        .map(|word| parse_number::<T>(word))
+        .try_collect(heap)
 }
 
 impl Options {

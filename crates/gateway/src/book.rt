@@ -1,7 +1,7 @@
 ghost use Rattle.std.specs.Prelude.{◌≡◌};
 ghost use Rattle.gateway.specs.Summary.{begun, went_on, entered};
 
-use day::Reply;
+use day::{Done, Reply};
 use machine::{Ran, Stop};
 
 // The day book of a cabinet: which events since the machine's start, how many steps, and the last stop.
@@ -42,9 +42,9 @@ pub fn enter(book: Option<Book>, reply: &Reply, events: usize) -> Option<Book>
     ensures { result ≡ entered book reply.now events }
 {
     match (reply, book) {
-        (Reply::Loaded(_), _) => Some(Book::begin(events)),
-        (Reply::Restarted, Some(_)) => Some(Book::begin(events)),
-        (Reply::Ran(ran), Some(book)) => Some(book.go_on(ran, events)),
+        (Ok(Done::Loaded(_)), _) => Some(Book::begin(events)),
+        (Ok(Done::Restarted), Some(_)) => Some(Book::begin(events)),
+        (Ok(Done::Ran(ran)), Some(book)) => Some(book.go_on(ran, events)),
         _ => book,
     }
 }

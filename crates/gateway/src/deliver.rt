@@ -11,7 +11,7 @@ use crate::error::Fault;
 use crate::ops::{HALT, LDC, OUT};
 use crate::print::{print_code, print_head};
 use crate::reading::read_code;
-use crate::text::{FourBytes, RefusalLine};
+use crate::text::FourBytes;
 use image::BLOCK;
 use machine::instruction::Instruction;
 use std::alloc::Global;
@@ -124,10 +124,7 @@ fn print_reading(rt: &HostRuntime, block: &Block) -> Result<(), Fault> {
     match read_limit(rt.alloc(), block) {
         Ok(Some(limit)) => println!(rt; "  read back: a limit of {limit}")?,
         Ok(None) => println!(rt; "  read back: no limit")?,
-        Err(Fault::Refused(refusal)) => {
-            let line = RefusalLine(refusal);
-            println!(rt; "  the block is turned down: {line}")?;
-        }
+        Err(Fault::Refused(refusal)) => println!(rt; "  the block is turned down: {refusal}")?,
         Err(fault) => return Err(fault),
     }
     Ok(())

@@ -1,4 +1,3 @@
-use crate::text::RefusalLine;
 use refusal::Refusal;
 use std::alloc::{AllocError, AllocFailed};
 use std::{fmt, io};
@@ -46,10 +45,7 @@ impl fmt::Display for Fault {
             Fault::Usage => write!(f, "{USAGE}"),
             Fault::Unreadable(path, error) => write!(f, "cannot read {path}: {error}"),
             Fault::System(error) => write!(f, "{error}"),
-            Fault::Refused(refusal) => {
-                let line = RefusalLine(*refusal);
-                write!(f, "{line}")
-            }
+            Fault::Refused(refusal) => write!(f, "{refusal}"),
         }
     }
 }

@@ -1,6 +1,7 @@
-ghost use Rattle.std.specs.Prelude.{◌≡◌, IfOk};
+ghost use Rattle.std.specs.Prelude.{◌≡◌, IfOk, map};
+ghost use Rattle.day.specs.declared.Command.TheVariants.{Run};
 ghost use Rattle.gateway.specs.Marking.{Marked};
-ghost use Rattle.gateway.specs.Orders.{load_and_runs};
+ghost use Rattle.gateway.specs.Orders.{like as like_order, load_and_runs};
 
 use crate::arguments::Plan;
 use crate::ending::end;
@@ -10,7 +11,7 @@ use crate::reading::BLANK;
 use crate::text::ReplyLine;
 use crate::trace::{Event, Trace};
 use cabinet::Empty;
-use day::{Command, Order, Others, Reply};
+use day::{Command, Denial, Done, Order, Others, Reply};
 use image::{CAPACITY, block_count};
 use machine::instruction::Instruction;
 use port::{Port, Record};
@@ -52,7 +53,7 @@ impl Stores {
             code: code_store(heap, image)?,
             memory: vec![in heap; 0; plan.cells]?,
             log: vec![in heap; 0; plan.log]?,
-            replies: vec![in heap; Reply::Unfit; runs.saturating_add(1)]?,
+            replies: vec![in heap; Err(Denial::Unfit); runs.saturating_add(1)]?,
             events: vec![in heap; Event::Took(0); events]?,
             marks: vec![in heap; 0; runs.saturating_add(2)]?,
         })
@@ -86,6 +87,27 @@ fn code_store(heap: Global, image: &[u8]) -> Result<Vec<Instruction>, AllocError
     vec![in heap; BLANK; CAPACITY * blocks]
 }
 
+// An order over the fronts of the stores that another has.
+pub fn like<'a>(order: Order<'a>, command: Command<'a>) -> Order<'a>
+    ensures { result ≡ like_order order.entry command.entry }
+{
+    Order {
+        command,
+        slots: order.slots,
+        cells: order.cells,
+    }
+}
+
+// A run for each grant, over the fronts of a load.
+fn runs<'a>(heap: Global, load: Order<'a>, grants: &[u32]) -> Result<Vec<Order<'a>>, AllocError>
+    ensures { IfOk result (λ v. v.items ≡ map (λ g. like_order load.entry (Run g)) grants.now) }
+{
+    grants
+        .iter()
+        .map(|grant| like(load, Command::Run(*grant)))
+        .collect(heap)
+}
+
 // A load, and a run for each grant.
 fn load_and_runs<'a>(
     heap: Global,
@@ -94,15 +116,8 @@ fn load_and_runs<'a>(
 ) -> Result<Vec<Order<'a>>, AllocError>
     ensures { IfOk result (λ v. v.items ≡ load_and_runs load.entry grants.now) }
 {
-    let mut orders = Vec::new(heap);
-    orders.push(load)?;
-    for grant in grants {
-        orders.push(Order {
-            command: Command::Run(*grant),
-            slots: load.slots,
-            cells: load.cells,
-        })?;
-    }
+    let mut orders = runs(heap, load, grants)?;
+    orders.insert(0, load)?;
     Ok(orders)
 }
 
@@ -137,7 +152,7 @@ fn exec_image(rt: &HostRuntime, plan: &Plan, image: &[u8]) -> Result<(), Fault> 
     if let Some(reply) = stores.replies.first() {
         let line = ReplyLine(*reply);
         println!(rt; "{line}")?;
-        if let Reply::Loaded(_) = reply {
+        if let Ok(Done::Loaded(_)) = reply {
             print_runs(rt, grants, &stores)?;
         }
     }

@@ -3,20 +3,18 @@ use image::{BLOCK, CAPACITY, LIMIT};
 use machine::instruction::Instruction;
 use std::io;
 
-pub fn print_head(rt: &HostRuntime, image: &[u8], place: usize) -> io::Result<()> {
-    if let Some(block) = image.chunks_exact(BLOCK).nth(place) {
-        if let Some(head) = Head::of(block, place) {
-            println!(rt; "  {head}")?;
-        }
+// The head of the block at a place.
+pub fn print_head(rt: &HostRuntime, block: &[u8], place: usize) -> io::Result<()> {
+    if let Some(head) = Head::of(block, place) {
+        println!(rt; "  {head}")?;
     }
     Ok(())
 }
 
 // The heads of the whole blocks of a file, of no more than an image can have.
 pub fn print_heads(rt: &HostRuntime, file: &[u8]) -> io::Result<()> {
-    let blocks = LIMIT.min(file.len() / BLOCK);
-    for place in 0..blocks {
-        print_head(rt, file, place)?;
+    for (place, block) in file.chunks_exact(BLOCK).take(LIMIT).enumerate() {
+        print_head(rt, block, place)?;
     }
     Ok(())
 }
@@ -39,9 +37,12 @@ pub fn print_code(rt: &HostRuntime, code: &[Instruction]) -> io::Result<()> {
 
 // The code of an image, with the head of each block before its instructions.
 pub fn print_blocks(rt: &HostRuntime, image: &[u8], code: &[Instruction]) -> io::Result<()> {
+    let mut blocks = image.chunks_exact(BLOCK).enumerate();
     for (address, instruction) in code.iter().enumerate() {
         if address % CAPACITY == 0 {
-            print_head(rt, image, address / CAPACITY)?;
+            if let Some((place, block)) = blocks.next() {
+                print_head(rt, block, place)?;
+            }
         }
         print_instruction(rt, address, instruction)?;
     }

@@ -1,9 +1,8 @@
 use std::fmt;
 
-// Who reaches the live port before an order.
+// Who reaches the live port, if anybody does.
 #[derive(Clone, Copy)]
 pub enum Visit {
-    Nobody,
     Meter(i32),
     Charger,
 }
@@ -22,29 +21,30 @@ pub enum Call {
     Unload,
 }
 
+// A visit before an order, and the call that is ordered.
 #[derive(Clone, Copy)]
-pub struct Hour(pub Visit, pub Call);
+pub struct Hour(pub Option<Visit>, pub Call);
 
 pub const HOURS: usize = 16;
 
 // A day that shows a spent grant, a refused and an unfit order, a blocked put and a number above the ceiling.
 pub static DAY: [Hour; HOURS] = [
-    Hour(Visit::Nobody, Call::Load(Rule::Limit)),
-    Hour(Visit::Nobody, Call::Run(1)),
-    Hour(Visit::Nobody, Call::Run(0)),
-    Hour(Visit::Nobody, Call::Run(9)),
-    Hour(Visit::Nobody, Call::Restart),
-    Hour(Visit::Nobody, Call::Run(9)),
-    Hour(Visit::Charger, Call::Run(9)),
-    Hour(Visit::Nobody, Call::Unload),
-    Hour(Visit::Nobody, Call::Run(9)),
-    Hour(Visit::Charger, Call::Load(Rule::Follower)),
-    Hour(Visit::Nobody, Call::Run(9)),
-    Hour(Visit::Meter(700), Call::Run(9)),
-    Hour(Visit::Meter(1200), Call::Run(9)),
-    Hour(Visit::Charger, Call::Run(9)),
-    Hour(Visit::Charger, Call::Restart),
-    Hour(Visit::Nobody, Call::Unload),
+    Hour(None, Call::Load(Rule::Limit)),
+    Hour(None, Call::Run(1)),
+    Hour(None, Call::Run(0)),
+    Hour(None, Call::Run(9)),
+    Hour(None, Call::Restart),
+    Hour(None, Call::Run(9)),
+    Hour(Some(Visit::Charger), Call::Run(9)),
+    Hour(None, Call::Unload),
+    Hour(None, Call::Run(9)),
+    Hour(Some(Visit::Charger), Call::Load(Rule::Follower)),
+    Hour(None, Call::Run(9)),
+    Hour(Some(Visit::Meter(700)), Call::Run(9)),
+    Hour(Some(Visit::Meter(1200)), Call::Run(9)),
+    Hour(Some(Visit::Charger), Call::Run(9)),
+    Hour(Some(Visit::Charger), Call::Restart),
+    Hour(None, Call::Unload),
 ];
 
 impl fmt::Display for Call {

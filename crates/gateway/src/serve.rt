@@ -5,7 +5,8 @@ use crate::book::{Book, enter};
 use crate::deliver::Block;
 use crate::ending::end;
 use crate::error::Fault;
-use crate::neighbours::{Neighbours, Sighting, Told};
+use crate::exec::like;
+use crate::neighbours::{Neighbours, Sighting};
 use crate::notes::Notes;
 use crate::ops::{IN, LDC, OUT};
 use crate::print::print_code;
@@ -14,12 +15,11 @@ use crate::script::{Call, DAY, HOURS, Hour, Rule};
 use crate::text::{BookLine, ReplyLine};
 use crate::trace::{Event, Trace};
 use cabinet::Empty;
-use day::{Command, Order, Reply};
+use day::{Command, Denial, Order, Reply};
 use image::BLOCK;
 use machine::instruction::Instruction;
 use port::{Ceiling, Live};
 use std::alloc::{AllocError, Global};
-use std::io;
 
 const FOLLOWER_NUMBER: u32 = 8;
 
@@ -72,35 +72,26 @@ fn load(image: &[u8]) -> Order<'_> {
 fn order<'a>(loads: Loads<'a>, call: Call) -> Order<'a>
     ensures { result ≡ asked loads.entry call }
 {
-    let command = match call {
-        Call::Load(Rule::Limit) => return loads.limit,
-        Call::Load(Rule::Follower) => return loads.follower,
-        Call::Run(grant) => Command::Run(grant),
-        Call::Restart => Command::Restart,
-        Call::Unload => Command::Unload,
-    };
-    Order {
-        command,
-        slots: loads.limit.slots,
-        cells: loads.limit.cells,
+    match call {
+        Call::Load(Rule::Limit) => loads.limit,
+        Call::Load(Rule::Follower) => loads.follower,
+        Call::Run(grant) => like(loads.limit, Command::Run(grant)),
+        Call::Restart => like(loads.limit, Command::Restart),
+        Call::Unload => like(loads.limit, Command::Unload),
     }
 }
 
 fn orders<'a>(heap: Global, loads: Loads<'a>, hours: &[Hour]) -> Result<Vec<Order<'a>>, AllocError>
     ensures { IfOk result (λ v. v.items ≡ scripted loads.entry hours.now) }
 {
-    let mut orders = Vec::new(heap);
-    for hour in hours {
-        orders.push(order(loads, hour.1))?;
-    }
-    Ok(orders)
+    hours.iter().map(|hour| order(loads, hour.1)).collect(heap)
 }
 
 // Works through the script for one cabinet, over a live port with a ceiling.
 fn work_day(orders: &[Order]) -> Records {
-    let mut replies = [Reply::Unfit; HOURS];
+    let mut replies = [Err(Denial::Unfit); HOURS];
     let mut sightings = [Sighting {
-        told: Told::Nothing,
+        told: None,
         events: 0,
     }; ENDS];
     let mut events = [Event::Took(0); EVENTS];
@@ -125,7 +116,7 @@ fn work_day(orders: &[Order]) -> Records {
     );
     end(cabinet);
     let last = Sighting {
-        told: Told::Nothing,
+        told: None,
         events: port.notes.seen(),
     };
     neighbours.sightings.add(last);
@@ -143,13 +134,6 @@ fn serve_day<'a>(heap: Global, limit: &'a [u8], follower: &'a [u8]) -> Result<Re
     };
     let orders = orders(heap, loads, &DAY)?;
     Ok(work_day(orders.as_slice()))
-}
-
-fn print_visit(rt: &HostRuntime, told: Told) -> io::Result<()> {
-    match told {
-        Told::Nothing => Ok(()),
-        _ => println!(rt; "  {told}"),
-    }
 }
 
 fn print_answer(
@@ -175,7 +159,9 @@ fn print_day(rt: &HostRuntime, records: &Records) -> Result<(), Fault> {
     let mut book = None;
     let answers = DAY.iter().zip(records.replies.iter());
     for ((hour, reply), ends) in answers.zip(records.sightings.windows(2)) {
-        print_visit(rt, ends[0].told)?;
+        if let Some(told) = ends[0].told {
+            println!(rt; "  {told}")?;
+        }
         book = enter(book, reply, ends[1].events);
         print_answer(rt, hour.1, reply, book, &records.events)?;
     }

@@ -1,7 +1,7 @@
 use crate::error::Fault;
 use crate::print::{print_blocks, print_heads};
 use crate::reading::read_code;
-use crate::text::{Advice, RefusalLine};
+use crate::text::Advice;
 use image::{BLOCK, header_at};
 use machine::instruction::Instruction;
 use refusal::{Reason, Refusal};
@@ -9,10 +9,7 @@ use std::fs;
 
 fn print_image(rt: &HostRuntime, image: &[u8], code: &[Instruction]) -> Result<(), Fault> {
     let Some(first) = header_at(image, 0) else {
-        return Err(Fault::Refused(Refusal {
-            reason: Reason::ImageLength,
-            place: 0,
-        }));
+        return Err(Fault::Refused(Reason::ImageLength.at(0)));
     };
     let number = first.number;
     let blocks = image.len() / BLOCK;
@@ -23,12 +20,11 @@ fn print_image(rt: &HostRuntime, image: &[u8], code: &[Instruction]) -> Result<(
 }
 
 fn print_refusal(rt: &HostRuntime, file: &[u8], refusal: Refusal) -> Result<(), Fault> {
-    let line = RefusalLine(refusal);
     let advice = Advice {
         refusal,
         size: file.len(),
     };
-    println!(rt; "{line}")?;
+    println!(rt; "{refusal}")?;
     println!(rt; "{advice}")?;
     print_heads(rt, file)?;
     Ok(())

@@ -2,7 +2,7 @@ use crate::book::Book;
 use crate::ops::DIV;
 use crate::trace::Event;
 use crc::is_sealed;
-use day::Reply;
+use day::{Denial, Done, Reply};
 use image::{Header, header_at};
 use machine::instruction::Instruction;
 use machine::{Ran, Stop};
@@ -74,18 +74,6 @@ impl fmt::Display for Head {
             "block {place}: image {number}, index {index} of {blocks}, "
         )?;
         write!(f, "{count} instructions, check 0x{check:04x} {verdict}")
-    }
-}
-
-// The line of a refusal that other tools read.
-#[derive(Clone, Copy)]
-pub struct RefusalLine(pub Refusal);
-
-impl fmt::Display for RefusalLine {
-    fn fmt<W: fmt::Write>(&self, f: &mut fmt::Formatter<W>) -> fmt::Result {
-        let number = self.0.reason.number();
-        let place = self.0.place;
-        write!(f, "refused {number} at {place}")
     }
 }
 
@@ -183,18 +171,15 @@ pub struct ReplyLine(pub Reply);
 impl fmt::Display for ReplyLine {
     fn fmt<W: fmt::Write>(&self, f: &mut fmt::Formatter<W>) -> fmt::Result {
         match self.0 {
-            Reply::Unfit => write!(f, "unfit"),
-            Reply::Loaded(count) => write!(f, "loaded {count}"),
-            Reply::Ran(ran) => {
+            Ok(Done::Loaded(count)) => write!(f, "loaded {count}"),
+            Ok(Done::Ran(ran)) => {
                 let line = RanLine(ran);
                 write!(f, "{line}")
             }
-            Reply::Restarted => write!(f, "restarted"),
-            Reply::Unloaded => write!(f, "unloaded"),
-            Reply::Refused(refusal) => {
-                let line = RefusalLine(refusal);
-                write!(f, "{line}")
-            }
+            Ok(Done::Restarted) => write!(f, "restarted"),
+            Ok(Done::Unloaded) => write!(f, "unloaded"),
+            Err(Denial::Unfit) => write!(f, "unfit"),
+            Err(Denial::Refused(refusal)) => write!(f, "{refusal}"),
         }
     }
 }

@@ -1,4 +1,5 @@
-use crate::samples::*;
+use crate::samples::MARK;
+use fixtures::{Row, UNTOUCHED};
 use machine::instruction::Instruction;
 use std::alloc::{AllocError, Global};
 use std::test::Fail;
@@ -23,11 +24,10 @@ static ENCODED: [Encoded; 9] = [
 ];
 
 fn all_instructions(heap: Global) -> Result<Vec<Instruction>, AllocError> {
-    let mut code = Vec::new(heap);
-    for encoded in &ENCODED {
-        code.push(encoded.0.instruction())?;
-    }
-    Ok(code)
+    ENCODED
+        .iter()
+        .map(|encoded| Instruction::from(encoded.0))
+        .collect(heap)
 }
 
 // The block of image 0xfffffffe that holds them.

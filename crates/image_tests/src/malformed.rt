@@ -1,4 +1,5 @@
 use crate::samples::*;
+use fixtures::{Row, are_all, refused};
 use machine::instruction::Instruction;
 use std::alloc::Global;
 use std::process::Abort;
@@ -40,13 +41,13 @@ fn check_writing(rt: &impl Abort, instruction: Instruction) {
     let mut store = [MARK; 512];
     let reply = image::write(7, &[instruction], &mut store);
     assert_eq!(rt; refused(reply), Some((22, 0)));
-    assert!(rt; are_marked(&store));
+    assert!(rt; are_all(&MARK, &store));
 }
 
 #[test]
 fn malformed_instructions_are_refused(rt: HostRuntime) -> Result<(), Fail> {
     for row in &MALFORMED {
-        check_writing(&rt, row.instruction());
+        check_writing(&rt, Instruction::from(*row));
         let image = image_with(rt.alloc(), row)?;
         check_refused(&rt, rt.alloc(), image.as_slice(), 1, (22, 0))?;
     }

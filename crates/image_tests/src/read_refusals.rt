@@ -1,4 +1,5 @@
 use crate::samples::*;
+use fixtures::UNTOUCHED;
 use std::alloc::Global;
 use std::process::Abort;
 use std::test::Fail;

@@ -1,41 +1,21 @@
 use crc::crc16;
+use fixtures::{Row, UNTOUCHED, are_all, refused};
 use machine::instruction::Instruction;
-use refusal::Refusal;
 use std::alloc::{AllocError, Global};
 use std::process::Abort;
 use std::test::Fail;
 
-// What the stores hold before a call. No image holds this instruction.
+// What a store of bytes holds before a call.
 pub(crate) const MARK: u8 = 0xa5;
-
-pub(crate) const UNTOUCHED: Instruction = Instruction {
-    op: 99,
-    r: 98,
-    s: 97,
-    t: 96,
-    d: -95,
-};
-
-// An instruction of a table: op, r, s, t, d.
-#[derive(Clone, Copy)]
-pub(crate) struct Row(pub u8, pub u8, pub u8, pub u8, pub i32);
-
-impl Row {
-    pub(crate) fn instruction(self) -> Instruction {
-        let Row(op, r, s, t, d) = self;
-        Instruction { op, r, s, t, d }
-    }
-}
 
 // So many instructions of the form, no two the same.
 pub(crate) fn sample_code(heap: Global, count: u16) -> Result<Vec<Instruction>, AllocError> {
-    let mut code = Vec::new(heap);
-    for k in 0..count {
-        let register = (k % 8) as u8;
-        let row = Row((7 + k % 3) as u8, register, register, 0, i32::from(k));
-        code.push(row.instruction())?;
-    }
-    Ok(code)
+    (0..count).map(sample_instruction).collect(heap)
+}
+
+fn sample_instruction(k: u16) -> Instruction {
+    let register = (k % 8) as u8;
+    Instruction::from(Row((7 + k % 3) as u8, register, register, 0, i32::from(k)))
 }
 
 // The image of so many instructions, which takes `size` bytes.
@@ -44,32 +24,6 @@ pub(crate) fn sample_image(heap: Global, count: u16, size: usize) -> Result<Vec<
     let mut store = vec![in heap; MARK; size]?;
     let _blocks = image::write(7, code.as_slice(), store.as_mut_slice())?;
     Ok(store)
-}
-
-pub(crate) fn are_marked(bytes: &[u8]) -> bool {
-    for byte in bytes {
-        if *byte != MARK {
-            return false;
-        }
-    }
-    true
-}
-
-pub(crate) fn are_untouched(code: &[Instruction]) -> bool {
-    for instruction in code {
-        if *instruction != UNTOUCHED {
-            return false;
-        }
-    }
-    true
-}
-
-// The number and the place of a refusal.
-pub(crate) fn refused(reply: Result<usize, Refusal>) -> Option<(u8, usize)> {
-    match reply {
-        Ok(_) => None,
-        Err(refusal) => Some((refusal.reason.number(), refusal.place)),
-    }
 }
 
 // That reading into so many places is refused, and leaves the places as they were.
@@ -83,7 +37,7 @@ pub(crate) fn check_refused(
     let mut store = vec![in heap; UNTOUCHED; room]?;
     let reply = image::read(image, store.as_mut_slice());
     assert_eq!(rt; refused(reply), Some(expected));
-    assert!(rt; are_untouched(store.as_slice()));
+    assert!(rt; are_all(&UNTOUCHED, store.as_slice()));
     Ok(())
 }
 

@@ -1,4 +1,5 @@
 use crate::samples::*;
+use fixtures::{UNTOUCHED, are_all};
 use image::header_at;
 use machine::instruction::Instruction;
 use std::alloc::Global;
@@ -41,7 +42,7 @@ fn check_reading(
     let front = store.as_slice().get(0..n).ok_or("no front")?;
     let rest = store.as_slice().get(n..).ok_or("no rest")?;
     assert!(rt; front == code);
-    assert!(rt; rest.len() == 2 && are_untouched(rest));
+    assert!(rt; rest.len() == 2 && are_all(&UNTOUCHED, rest));
     Ok(())
 }
 
@@ -55,7 +56,7 @@ fn check_size(rt: &impl Abort, heap: Global, size: &Size) -> Result<(), Fail> {
     assert_eq!(rt; written, blocks as usize);
     let image = store.as_slice().get(0..bytes).ok_or("no image")?;
     let rest = store.as_slice().get(bytes..).ok_or("no rest")?;
-    assert!(rt; rest.len() == 3 && are_marked(rest));
+    assert!(rt; rest.len() == 3 && are_all(&MARK, rest));
     assert_eq!(rt; image::block_count(image)?, blocks as usize);
     check_last_header(rt, image, size)?;
     check_reading(rt, heap, image, code.as_slice())

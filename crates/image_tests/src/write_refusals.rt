@@ -1,4 +1,5 @@
 use crate::samples::*;
+use fixtures::{UNTOUCHED, are_all, refused};
 use machine::instruction::Instruction;
 use std::alloc::{AllocError, Global};
 use std::test::Fail;
@@ -51,7 +52,7 @@ fn code_and_store_are_refused(rt: HostRuntime) -> Result<(), Fail> {
         let mut store = vec![in heap; MARK; bytes as usize]?;
         let reply = image::write(7, code.as_slice(), store.as_mut_slice());
         assert_eq!(rt; refused(reply), Some((number, place)));
-        assert!(rt; are_marked(store.as_slice()));
+        assert!(rt; are_all(&MARK, store.as_slice()));
     }
     Ok(())
 }
