@@ -2,7 +2,7 @@ use crate::samples::*;
 use cabinet::Empty;
 use day::{Cabinet, Command, Denial, Done, Order, Others, Reply};
 use fixtures::{Row, UNTOUCHED};
-use machine::{Ran, Stop};
+use machine::Stop;
 use port::Live;
 use std::process::Abort;
 use std::test::Fail;
@@ -18,10 +18,6 @@ fn told_by(reply: Reply) -> Told {
         Denial::Unfit => None,
         Denial::Refused(refusal) => Some((refusal.reason.number(), refusal.place)),
     })
-}
-
-fn ran(stop: Stop, steps: u32) -> Told {
-    Ok(Done::Ran(Ran { stop, steps }))
 }
 
 // A meter that gives 1, 2, 3 and so on, one before each order; a charger that fetches and adds up.

@@ -118,13 +118,18 @@ fn after(register: u8, value: i32) -> Result<[i32; 8], Fail> {
     Ok(after)
 }
 
-fn check_effect(rt: &impl Abort, effect: &Effect) -> Result<(), Fail> {
-    let code = [Instruction::from(effect.0); 4];
+// The registers and the cells after a step of an instruction at place 1.
+fn stepped(rt: &impl Abort, row: Row, port: &mut Live) -> ([i32; 8], [i32; 16]) {
+    let code = [Instruction::from(row); 4];
     let mut registers = BEFORE;
     let mut cells = NUMBERED;
-    let mut port = Live::new();
-    let ran = machine::run(&code, &mut registers, &mut cells, &mut port, 1);
+    let ran = machine::run(&code, &mut registers, &mut cells, port, 1);
     assert_eq!(rt; ran, STEP);
+    (registers, cells)
+}
+
+fn check_effect(rt: &impl Abort, effect: &Effect) -> Result<(), Fail> {
+    let (registers, cells) = stepped(rt, effect.0, &mut Live::new());
     assert_eq!(rt; registers, after(effect.1, effect.2)?);
     assert_eq!(rt; cells, NUMBERED);
     Ok(())
@@ -139,12 +144,7 @@ fn instructions_have_their_effects(rt: HostRuntime) -> Result<(), Fail> {
 }
 
 fn check_stored(rt: &impl Abort, stored: &Stored) -> Result<(), Fail> {
-    let code = [Instruction::from(stored.0); 4];
-    let mut registers = BEFORE;
-    let mut cells = NUMBERED;
-    let mut port = Live::new();
-    let ran = machine::run(&code, &mut registers, &mut cells, &mut port, 1);
-    assert_eq!(rt; ran, STEP);
+    let (registers, cells) = stepped(rt, stored.0, &mut Live::new());
     assert_eq!(rt; registers, after(7, 2)?);
     let mut expected = NUMBERED;
     assert!(rt; stored.1 < 16);
@@ -163,13 +163,9 @@ fn stores_change_one_cell(rt: HostRuntime) -> Result<(), Fail> {
 
 // A reading of 42 into a register.
 fn check_taking(rt: &impl Abort, register: u8) -> Result<(), Fail> {
-    let code = [Instruction::from(Row(1, register, 0, 0, 0)); 4];
-    let mut registers = BEFORE;
-    let mut cells = NUMBERED;
     let mut port = Live::new();
     assert!(rt; port.give(42));
-    let ran = machine::run(&code, &mut registers, &mut cells, &mut port, 1);
-    assert_eq!(rt; ran, STEP);
+    let (registers, cells) = stepped(rt, Row(1, register, 0, 0, 0), &mut port);
     assert_eq!(rt; registers, after(register, 42)?);
     assert_eq!(rt; cells, NUMBERED);
     assert!(rt; port.give(43));
@@ -184,12 +180,8 @@ fn a_reading_goes_into_a_register(rt: HostRuntime) -> Result<(), Fail> {
 }
 
 fn check_putting(rt: &impl Abort, register: u8, value: i32) -> Result<(), Fail> {
-    let code = [Instruction::from(Row(2, register, 0, 0, 0)); 4];
-    let mut registers = BEFORE;
-    let mut cells = NUMBERED;
     let mut port = Live::new();
-    let ran = machine::run(&code, &mut registers, &mut cells, &mut port, 1);
-    assert_eq!(rt; ran, STEP);
+    let (registers, cells) = stepped(rt, Row(2, register, 0, 0, 0), &mut port);
     assert_eq!(rt; registers, after(7, 2)?);
     assert_eq!(rt; cells, NUMBERED);
     assert_eq!(rt; port.fetch(), Some(value));

@@ -2,8 +2,8 @@ use crate::samples::*;
 use cabinet::{Empty, Loaded, Refused, Started};
 use day::Done;
 use fixtures::{Row, UNTOUCHED};
+use machine::Stop;
 use machine::instruction::Instruction;
-use machine::{Ran, Stop};
 use port::Live;
 use refusal::Refusal;
 use std::process::Abort;
@@ -123,10 +123,6 @@ fn make_trials(image: &[u8], trials: &[Trial]) -> Seen {
 
 fn run(grant: u32) -> Trial {
     Trial(Call::Run(grant), 10, 20)
-}
-
-fn ran(stop: Stop, steps: u32) -> Told {
-    Ok(Done::Ran(Ran { stop, steps }))
 }
 
 fn loaded_code() -> [Instruction; SLOTS] {

@@ -1,6 +1,8 @@
 use cabinet::{Empty, Refused, Started};
+use day::Done;
 use fixtures::Row;
 use machine::instruction::Instruction;
+use machine::{Ran, Stop};
 use refusal::Refusal;
 use std::alloc::{AllocError, Global};
 use std::process::Abort;
@@ -26,6 +28,10 @@ pub(crate) fn image_of(rt: &impl Abort, heap: Global, rows: &[Row]) -> Result<Ve
     let mut image = vec![in heap; 0; 512]?;
     assert_eq!(rt; image::write(7, code.as_slice(), image.as_mut_slice())?, 1);
     Ok(image)
+}
+
+pub(crate) fn ran<E>(stop: Stop, steps: u32) -> Result<Done, E> {
+    Ok(Done::Ran(Ran { stop, steps }))
 }
 
 // Loads a new cabinet, and ends it.
