@@ -106,7 +106,7 @@ fn check_replies(rt: &impl Abort, replies: &[Reply], expected: &[Told]) {
 // An empty cabinet can only be loaded, and a loaded one not loaded.
 #[test]
 fn unfit_commands_are_told(rt: HostRuntime) -> Result<(), Fail> {
-    let image = image_of(&rt, rt.alloc(), &ROWS)?;
+    let image = image_of(&rt, &ROWS)?;
     let load = order(Command::Load(image.as_slice()));
     let evening = work(&[
         order(Command::Run(1)),
@@ -137,7 +137,7 @@ fn unfit_commands_are_told(rt: HostRuntime) -> Result<(), Fail> {
 // Refused orders leave the machine where it is.
 #[test]
 fn refused_orders_change_nothing(rt: HostRuntime) -> Result<(), Fail> {
-    let image = image_of(&rt, rt.alloc(), &ROWS)?;
+    let image = image_of(&rt, &ROWS)?;
     let load = order(Command::Load(image.as_slice()));
     let run = order(Command::Run(9));
     let evening = work(&[
@@ -177,7 +177,7 @@ fn refused_orders_change_nothing(rt: HostRuntime) -> Result<(), Fail> {
 // A reading is taken on in each run; the restart forgets none, and the charger fetches what was put.
 #[test]
 fn a_day_goes_on_between_meter_and_charger(rt: HostRuntime) -> Result<(), Fail> {
-    let image = image_of(&rt, rt.alloc(), &ROWS)?;
+    let image = image_of(&rt, &ROWS)?;
     let run = order(Command::Run(9));
     let evening = work(&[
         order(Command::Load(image.as_slice())),
@@ -210,7 +210,7 @@ fn a_day_goes_on_between_meter_and_charger(rt: HostRuntime) -> Result<(), Fail> 
 // With room for two replies the third order is not worked.
 #[test]
 fn a_day_ends_with_the_room_for_replies(rt: HostRuntime) -> Result<(), Fail> {
-    let image = image_of(&rt, rt.alloc(), &ROWS)?;
+    let image = image_of(&rt, &ROWS)?;
     let orders = [
         order(Command::Load(image.as_slice())),
         order(Command::Run(1)),

@@ -3,7 +3,6 @@ use fixtures::Row;
 use machine::instruction::Instruction;
 use machine::{Ran, Stop};
 use port::Record;
-use std::alloc::Global;
 use std::process::Abort;
 use std::test::Fail;
 

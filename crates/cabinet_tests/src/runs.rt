@@ -167,7 +167,7 @@ fn check_wrong(rt: &impl Abort, image: &[u8], wrong: &Wrong) {
 
 #[test]
 fn runs_are_refused(rt: HostRuntime) -> Result<(), Fail> {
-    let image = image_of(&rt, rt.alloc(), &ROWS)?;
+    let image = image_of(&rt, &ROWS)?;
     for wrong in &WRONG {
         check_wrong(&rt, image.as_slice(), wrong);
     }
@@ -184,7 +184,7 @@ fn check_used(rt: &impl Abort, seen: Seen, told: Told) {
 // The ends of the grants. The stores are left by the unload too.
 #[test]
 fn runs_are_granted(rt: HostRuntime) -> Result<(), Fail> {
-    let image = image_of(&rt, rt.alloc(), &ROWS)?;
+    let image = image_of(&rt, &ROWS)?;
     let image = image.as_slice();
     let first = make_trials(image, &[run(1)]);
     assert_eq!(rt; first.told, Some(ran(Stop::Spent, 1)));
@@ -218,7 +218,7 @@ const RESTART: Trial = Trial(Call::Restart, 10, 20);
 // After two steps: back to the start, so that the run makes three steps again.
 #[test]
 fn a_restart_goes_back_to_the_start(rt: HostRuntime) -> Result<(), Fail> {
-    let image = image_of(&rt, rt.alloc(), &ROWS)?;
+    let image = image_of(&rt, &ROWS)?;
     let image = image.as_slice();
     let seen = make_trials(image, &[run(2), RESTART]);
     assert_eq!(rt; seen.told, Some(Ok(Done::Restarted)));
@@ -250,7 +250,7 @@ fn check_restart_refused(rt: &impl Abort, image: &[u8], slots: usize, cells: usi
 
 #[test]
 fn restarts_are_refused(rt: HostRuntime) -> Result<(), Fail> {
-    let image = image_of(&rt, rt.alloc(), &ROWS)?;
+    let image = image_of(&rt, &ROWS)?;
     check_restart_refused(&rt, image.as_slice(), 9, 20);
     check_restart_refused(&rt, image.as_slice(), 11, 20);
     check_restart_refused(&rt, image.as_slice(), 10, 19);

@@ -23,9 +23,9 @@ pub(crate) fn code_of(heap: Global, rows: &[Row]) -> Result<Vec<Instruction>, Al
 }
 
 // The image with number 7 of a code of up to 62 instructions.
-pub(crate) fn image_of(rt: &impl Abort, heap: Global, rows: &[Row]) -> Result<Vec<u8>, Fail> {
-    let code = code_of(heap, rows)?;
-    let mut image = vec![in heap; 0; 512]?;
+pub(crate) fn image_of(rt: &(impl Abort + AllocGlobal), rows: &[Row]) -> Result<Vec<u8>, Fail> {
+    let code = code_of(rt.alloc(), rows)?;
+    let mut image = vec![in rt.alloc(); 0; 512]?;
     assert_eq!(rt; image::write(7, code.as_slice(), image.as_mut_slice())?, 1);
     Ok(image)
 }

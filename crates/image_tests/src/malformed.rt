@@ -49,7 +49,7 @@ fn malformed_instructions_are_refused(rt: HostRuntime) -> Result<(), Fail> {
     for row in &MALFORMED {
         check_writing(&rt, Instruction::from(*row));
         let image = image_with(rt.alloc(), row)?;
-        check_refused(&rt, rt.alloc(), image.as_slice(), 1, (22, 0))?;
+        check_refused(&rt, image.as_slice(), 1, (22, 0))?;
     }
     Ok(())
 }

@@ -1,6 +1,5 @@
 use crate::samples::*;
 use fixtures::UNTOUCHED;
-use std::alloc::Global;
 use std::process::Abort;
 use std::test::Fail;
 
@@ -67,31 +66,29 @@ fn strike(image: &mut [u8], damage: &Damage) -> Result<(), Fail> {
 }
 
 fn check_unsealed(
-    rt: &impl Abort,
-    heap: Global,
+    rt: &(impl Abort + AllocGlobal),
     image: &[u8],
     table: &[Damage],
 ) -> Result<(), Fail> {
     for damage in table {
-        let mut struck = image.to_vec(heap)?;
+        let mut struck = image.to_vec(rt.alloc())?;
         strike(struck.as_mut_slice(), damage)?;
-        check_refused(rt, heap, struck.as_slice(), 125, (20, damage.3))?;
+        check_refused(rt, struck.as_slice(), 125, (20, damage.3))?;
     }
     Ok(())
 }
 
 fn check_resealed(
-    rt: &impl Abort,
-    heap: Global,
+    rt: &(impl Abort + AllocGlobal),
     image: &[u8],
     table: &[Damage],
     number: u8,
 ) -> Result<(), Fail> {
     for damage in table {
-        let mut struck = image.to_vec(heap)?;
+        let mut struck = image.to_vec(rt.alloc())?;
         strike(struck.as_mut_slice(), damage)?;
         reseal(struck.as_mut_slice(), damage.0)?;
-        check_refused(rt, heap, struck.as_slice(), 125, (number, damage.3))?;
+        check_refused(rt, struck.as_slice(), 125, (number, damage.3))?;
     }
     Ok(())
 }
@@ -100,12 +97,12 @@ fn check_resealed(
 fn damaged_blocks_are_refused(rt: HostRuntime) -> Result<(), Fail> {
     let heap = rt.alloc();
     let image = sample_image(heap, 125, 1536)?;
-    check_unsealed(&rt, heap, image.as_slice(), &UNSEALED)?;
-    check_resealed(&rt, heap, image.as_slice(), &HEADERS, 21)?;
-    check_resealed(&rt, heap, image.as_slice(), &BODIES, 22)?;
+    check_unsealed(&rt, image.as_slice(), &UNSEALED)?;
+    check_resealed(&rt, image.as_slice(), &HEADERS, 21)?;
+    check_resealed(&rt, image.as_slice(), &BODIES, 22)?;
     let longest = sample_image(heap, 49228, 406528)?;
-    check_unsealed(&rt, heap, longest.as_slice(), &LATE)?;
-    check_resealed(&rt, heap, longest.as_slice(), &LATE, 22)
+    check_unsealed(&rt, longest.as_slice(), &LATE)?;
+    check_resealed(&rt, longest.as_slice(), &LATE, 22)
 }
 
 // The first faulty block counts, and in it the check, then the header, then the instructions.
@@ -115,13 +112,13 @@ fn the_first_fault_counts(rt: HostRuntime) -> Result<(), Fail> {
     let mut image = sample_image(heap, 125, 1536)?;
     strike(image.as_mut_slice(), &Damage(1, 12, 17, 1))?;
     strike(image.as_mut_slice(), &Damage(2, 20, 1, 2))?;
-    check_refused(&rt, heap, image.as_slice(), 125, (20, 1))?;
+    check_refused(&rt, image.as_slice(), 125, (20, 1))?;
     reseal(image.as_mut_slice(), 1)?;
-    check_refused(&rt, heap, image.as_slice(), 125, (22, 1))?;
+    check_refused(&rt, image.as_slice(), 125, (22, 1))?;
     strike(image.as_mut_slice(), &Damage(1, 9, 1, 1))?;
     reseal(image.as_mut_slice(), 1)?;
-    check_refused(&rt, heap, image.as_slice(), 125, (21, 1))?;
-    check_refused(&rt, heap, image.as_slice(), 0, (21, 1))
+    check_refused(&rt, image.as_slice(), 125, (21, 1))?;
+    check_refused(&rt, image.as_slice(), 0, (21, 1))
 }
 
 #[test]
@@ -129,7 +126,7 @@ fn other_lengths_are_refused(rt: HostRuntime) -> Result<(), Fail> {
     let heap = rt.alloc();
     for size in [0, 511, 513, 407040] {
         let bytes = vec![in heap; 0; size]?;
-        check_refused(&rt, heap, bytes.as_slice(), 125, (19, 0))?;
+        check_refused(&rt, bytes.as_slice(), 125, (19, 0))?;
     }
     Ok(())
 }
@@ -138,8 +135,8 @@ fn other_lengths_are_refused(rt: HostRuntime) -> Result<(), Fail> {
 fn a_short_code_store_is_refused(rt: HostRuntime) -> Result<(), Fail> {
     let heap = rt.alloc();
     let image = sample_image(heap, 125, 1536)?;
-    check_refused(&rt, heap, image.as_slice(), 0, (18, 0))?;
-    check_refused(&rt, heap, image.as_slice(), 124, (18, 0))?;
+    check_refused(&rt, image.as_slice(), 0, (18, 0))?;
+    check_refused(&rt, image.as_slice(), 124, (18, 0))?;
     let mut store = vec![in heap; UNTOUCHED; 125]?;
     assert_eq!(rt; image::read(image.as_slice(), store.as_mut_slice())?, 125);
     Ok(())

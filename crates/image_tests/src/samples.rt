@@ -28,13 +28,12 @@ pub(crate) fn sample_image(heap: Global, count: u16, size: usize) -> Result<Vec<
 
 // That reading into so many places is refused, and leaves the places as they were.
 pub(crate) fn check_refused(
-    rt: &impl Abort,
-    heap: Global,
+    rt: &(impl Abort + AllocGlobal),
     image: &[u8],
     room: usize,
     expected: (u8, usize),
 ) -> Result<(), Fail> {
-    let mut store = vec![in heap; UNTOUCHED; room]?;
+    let mut store = vec![in rt.alloc(); UNTOUCHED; room]?;
     let reply = image::read(image, store.as_mut_slice());
     assert_eq!(rt; refused(reply), Some(expected));
     assert!(rt; are_all(&UNTOUCHED, store.as_slice()));

@@ -2,7 +2,6 @@ use crate::samples::*;
 use fixtures::{UNTOUCHED, are_all};
 use image::header_at;
 use machine::instruction::Instruction;
-use std::alloc::Global;
 use std::process::Abort;
 use std::test::Fail;
 
@@ -30,14 +29,13 @@ fn check_last_header(rt: &impl Abort, image: &[u8], size: &Size) -> Result<(), F
 
 // Reads an image into a store with two places to spare.
 fn check_reading(
-    rt: &impl Abort,
-    heap: Global,
+    rt: &(impl Abort + AllocGlobal),
     image: &[u8],
     code: &[Instruction],
 ) -> Result<(), Fail> {
     let n = code.len();
     let room = n.checked_add(2).ok_or("too long")?;
-    let mut store = vec![in heap; UNTOUCHED; room]?;
+    let mut store = vec![in rt.alloc(); UNTOUCHED; room]?;
     assert_eq!(rt; image::read(image, store.as_mut_slice())?, n);
     let front = store.as_slice().get(0..n).ok_or("no front")?;
     let rest = store.as_slice().get(n..).ok_or("no rest")?;
@@ -47,11 +45,11 @@ fn check_reading(
 }
 
 // Writes an image into a store with three bytes to spare, and reads it back.
-fn check_size(rt: &impl Abort, heap: Global, size: &Size) -> Result<(), Fail> {
+fn check_size(rt: &(impl Abort + AllocGlobal), size: &Size) -> Result<(), Fail> {
     let Size(instructions, blocks, bytes, _, _) = *size;
     let bytes = bytes as usize;
-    let code = sample_code(heap, instructions)?;
-    let mut store = vec![in heap; MARK; bytes + 3]?;
+    let code = sample_code(rt.alloc(), instructions)?;
+    let mut store = vec![in rt.alloc(); MARK; bytes + 3]?;
     let written = image::write(0xfffffffe, code.as_slice(), store.as_mut_slice())?;
     assert_eq!(rt; written, blocks as usize);
     let image = store.as_slice().get(0..bytes).ok_or("no image")?;
@@ -59,13 +57,13 @@ fn check_size(rt: &impl Abort, heap: Global, size: &Size) -> Result<(), Fail> {
     assert!(rt; rest.len() == 3 && are_all(&MARK, rest));
     assert_eq!(rt; image::block_count(image)?, blocks as usize);
     check_last_header(rt, image, size)?;
-    check_reading(rt, heap, image, code.as_slice())
+    check_reading(rt, image, code.as_slice())
 }
 
 #[test]
 fn each_size_is_read_back(rt: HostRuntime) -> Result<(), Fail> {
     for size in &SIZES {
-        check_size(&rt, rt.alloc(), size)?;
+        check_size(&rt, size)?;
     }
     Ok(())
 }
