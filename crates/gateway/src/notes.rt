@@ -1,7 +1,8 @@
 ghost use Rattle.std.specs.Prelude.{◌≡◌, ◌-◌, length};
 ghost use Rattle.gateway.specs.Noting.{noted, blank, and_then};
 
-// A list in places that are handed in. Items that find no place are counted, and not held.
+// A list in places that are handed in, since a take or a put that notes itself cannot fail for want of memory.
+// Items that find no place are counted, and not held.
 #[derive(Drop)]
 pub struct Notes<'n, T> {
     places: &'n mut [T],

@@ -3,7 +3,7 @@ ghost use Rattle.port.specs.Kinds.{Recorded, recorded, record_ways};
 
 use crate::Port;
 
-// A port over readings and a log that are handed in.
+// A port over readings and a log that are handed in: the libraries have no heap.
 #[derive(Drop)]
 pub struct Record<'r, 'l> {
     total: usize,
