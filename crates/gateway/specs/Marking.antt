@@ -6,5 +6,4 @@ use Rattle.gateway.specs.Noting.{noted, and_then}
 -- Nobody reaches the port; how many events it had is noted.
 pub record Marked {P : Type 0} (o : Nobody) (p : Trace P) (o' : Nobody) (q : Trace P) : Type 0 where
   pub port : q ≡ p
-  pub marks : noted o'.marks.places.now o'.marks.seen
-      ≡ and_then (noted o.marks.places.now o.marks.seen) p.notes.seen
+  pub marks : noted o'.marks ≡ and_then (noted o.marks) p.notes.seen

@@ -1,4 +1,5 @@
 use Rattle.std.specs.Prelude.{ℕ, ◌+◌, ◌-◌, ◌^◌, min, if◌then◌else◌, List, [], ◌∷◌, ◌++◌, length, take, nat_lt}
+use Rattle.gateway.specs.declared.notes.Notes.{Notes}
 
 -- Notes: the items that found a place, the places left, and how many items there were.
 pub record Noted (T : Type 0) : Type 0 where
@@ -6,8 +7,8 @@ pub record Noted (T : Type 0) : Type 0 where
   pub room : ℕ
   pub seen : ℕ
 
-abbrev pub noted : {T : Type 0} → List T → ℕ → Noted T
-noted places seen = record { items = take seen places; room = length places - seen; seen = seen }
+abbrev pub noted : {T : Type 0} → Notes T → Noted T
+noted n = record { items = take n.seen n.places.now; room = length n.places.now - n.seen; seen = n.seen }
 
 abbrev pub blank : {T : Type 0} → ℕ → Noted T
 blank room = record { items = []; room = room; seen = 0 }

@@ -1,4 +1,4 @@
-use Rattle.std.specs.Prelude.{◌≡◌, ℕ, if◌then◌else◌, List, length, ℤ, Some, None, Option, nat_lt, slice_index_or}
+use Rattle.std.specs.Prelude.{◌≡◌, ℕ, if◌then◌else◌, List, length, Some, None, Option, nat_lt, slice_index_or}
 use Rattle.port.specs.declared.ceiling.Ceiling.{Ceiling}
 use Rattle.port.specs.declared.live.Live.{Live}
 use Rattle.port.specs.Ways.{if_waiting}
@@ -47,6 +47,5 @@ pub record Called (o : Neighbours) (p : Trace (Ceiling Live)) (o' : Neighbours) 
   pub high : q.port.high ≡ p.port.high
   pub notes : q.notes ≡ p.notes
   pub hours : o'.hours ≡ o.hours
-  pub sightings : noted o'.sightings.places.now o'.sightings.seen
-      ≡ and_then (noted o.sightings.places.now o.sightings.seen)
+  pub sightings : noted o'.sightings ≡ and_then (noted o.sightings)
       (record { told = told p.port.port (planned o.hours.now o.sightings.seen); events = p.notes.seen })

@@ -9,29 +9,20 @@ pub struct Notes<'n, T> {
     seen: usize,
 }
 
-// Puts an item after `seen` others, and says how many there are.
-fn note<T: Copy>(places: &mut [T], seen: usize, item: T) -> usize
-    ensures { noted places.new result ≡ and_then (noted places.old seen) item }
-{
-    if seen >= places.len() {
-        return seen.saturating_add(1);
-    }
-    places[seen] = item;
-    seen + 1
-}
-
 impl<'n, T: Copy> Notes<'n, T> {
     pub fn new(places: &'n mut [T]) -> Notes<'n, T>
-        ensures { noted result.places.now result.seen ≡ blank (length places.old) }
+        ensures { noted result ≡ blank (length places.old) }
     {
         Notes { places, seen: 0 }
     }
 
     pub fn add(&mut self, item: T)
-        ensures { noted self.new.places.now self.new.seen ≡ and_then (noted self.old.places.now self.old.seen) item }
+        ensures { noted self.new ≡ and_then (noted self.old) item }
     {
-        let seen = self.seen;
-        self.seen = note(self.places, seen, item);
+        if self.seen < self.places.len() {
+            self.places[self.seen] = item;
+        }
+        self.seen = self.seen.saturating_add(1);
     }
 
     // How many items there were.

@@ -29,7 +29,7 @@ impl<P: Port> Port for Trace<'_, P> {
 
     fn take(&mut self) -> Option<i32>
         ensures port { Taken P.Port.ways (P.Port.meaning self.old.port) result (P.Port.meaning self.new.port) }
-        ensures events { noted self.new.notes.places.now self.new.notes.seen ≡ after_take (noted self.old.notes.places.now self.old.notes.seen) result }
+        ensures events { noted self.new.notes ≡ after_take (noted self.old.notes) result }
     {
         let v = self.port.take()?;
         self.notes.add(Event::Took(v));
@@ -38,7 +38,7 @@ impl<P: Port> Port for Trace<'_, P> {
 
     fn put(&mut self, v: i32) -> bool
         ensures port { Offered P.Port.ways (P.Port.meaning self.old.port) v result (P.Port.meaning self.new.port) }
-        ensures events { noted self.new.notes.places.now self.new.notes.seen ≡ after_put (noted self.old.notes.places.now self.old.notes.seen) v result }
+        ensures events { noted self.new.notes ≡ after_put (noted self.old.notes) v result }
     {
         if !self.port.put(v) {
             return false;
