@@ -18,12 +18,6 @@ abbrev more_by : {M : Type 0} → ℕ → Told M → Told M
 more_by n o = record { stop = o.stop; steps = n + o.steps; state = o.state; port = o.port }
 
 module _ {M : Type 0} {w : Ways M} {code : List Instruction} {grant : ℕ} {s : State} {m : M} where
-  pub reached_none : Reached w code grant s m 0 s m
-  reached_none = record { rest =
-    let o : Outcome M = run_over w code grant s m in
-    ap (λ n. more_by 0 (told (run_over w code n s m))) (sub-zero grant)
-    ∙ ap (λ n. record { stop = o.stop; steps = n; state = o.state; port = o.port }) (zero-add o.steps) }
-
   pub reached_more : (steps : ℕ) (t u : State) (k l : M) → steps < grant → turn w (act code t) k ≡ goes u l
       → Reached w code grant s m steps t k → Reached w code grant s m (steps + 1) u l
   reached_more steps t u k l more step so_far =
@@ -31,11 +25,13 @@ module _ {M : Type 0} {w : Ways M} {code : List Instruction} {grant : ℕ} {s : 
       let o : Outcome M = run_over w code j u l in
       let left : grant - steps ≡ suc j = omega arith in
       let count : (steps + 1) + o.steps ≡ steps + (1 + o.steps) = omega arith in
-      record { rest =
-        ap (λ n. record { stop = o.stop; steps = n; state = o.state; port = o.port }) count
-        ∙ ap (λ p. more_by steps (told p)) (sym (run_goes w code j t k u l step))
-        ∙ ap (λ n. more_by steps (told (run_over w code n t k))) (sym left)
-        ∙ so_far.rest }
+      record {
+        rest =
+            ap (λ n. record { stop = o.stop; steps = n; state = o.state; port = o.port }) count
+            ∙ ap (λ p. more_by steps (told p)) (sym (run_goes w code j t k u l step))
+            ∙ ap (λ n. more_by steps (told (run_over w code n t k))) (sym left)
+            ∙ so_far.rest;
+      }
 
   pub reached_stop : (steps : ℕ) (x : Stop) (t : State) (k : M) → steps < grant → turn w (act code t) k ≡ ends x
       → Reached w code grant s m steps t k

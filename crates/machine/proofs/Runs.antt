@@ -1,5 +1,5 @@
 -- A run by its first act, the steps that it made, and runs one after another.
-use Rattle.std.proofs.Common.{◌≡◌, ℕ, zero, suc, ◌+◌, Bool, true, false, cond, List, [], ◌∷◌, ◌++◌, ℤ, Some, None, Option, sym, refl, ap, ◌∙◌, subst, append_assoc, add_assoc, suc-add, zero-add, one-add, arith, w32}
+use Rattle.std.proofs.Common.{◌≡◌, ℕ, zero, suc, ◌+◌, Bool, true, false, if◌then◌else◌, List, [], ◌∷◌, ◌++◌, ℤ, Some, None, Option, sym, refl, ap, ◌∙◌, subst, append_assoc, add_assoc, suc-add, zero-add, one-add, arith, w32}
 use Rattle.std.proofs.lemmas.Int.{SFits-int_wrap}
 use Rattle.word.specs.Arithmetic.{word}
 use Rattle.port.specs.Ways.{Ways}
@@ -55,10 +55,10 @@ halted a address e = e
 halted a place e = e
 
 not_spent : (c : Cause) → stop_of c ≡ Spent → ⊥
-not_spent (halt r) e = let z : ◌≡◌ {A = ℕ} 0 1 = cc in omega arith
-not_spent divisor e = let z : ◌≡◌ {A = ℕ} 0 1 = cc in omega arith
-not_spent address e = let z : ◌≡◌ {A = ℕ} 0 1 = cc in omega arith
-not_spent place e = let z : ◌≡◌ {A = ℕ} 0 1 = cc in omega arith
+not_spent (halt r) e = cc
+not_spent divisor e = cc
+not_spent address e = cc
+not_spent place e = cc
 
 module _ {M : Type 0} (code : List Instruction) (s : State) (n : ℕ) where
   stays : (m : M) (x : Stop) → Next (act code s) x → (x ≡ Spent → ⊥) → Made code s (suc n) (ended x s m)
@@ -89,14 +89,14 @@ module _ {M : Type 0} (w : Ways M) (code : List Instruction) (n : ℕ) (s : Stat
       → Made code s (suc n) (on w code n s m
       (elim o [ Some v ↦ goes (f (word v)) (w.taken m) | None ↦ ends Waiting ])
       (elim o [ Some v ↦ took (word v) ∷ [] | None ↦ [] ]))
-  reached_take f e None = stays code s n m Waiting (f, e) (λ same. let z : ◌≡◌ {A = ℕ} 0 1 = cc in omega arith)
+  reached_take f e None = stays code s n m Waiting (f, e) (λ same. cc)
   reached_take f e (Some v) =
       later code s n (f (word v)) (took (word v) ∷ []) _ (λ k fs u. taking e (word v) (SFits-int_wrap w32 v))
       (ih (f (word v)) (w.taken m))
 
   reached_put : (v : ℤ) (t : State) → act code s ≡ puts v t → (b : Bool)
-      → Made code s (suc n) (on w code n s m (cond b (goes t (w.became m v)) (ends (Blocked v))) (gave v ∷ []))
-  reached_put v t e false = stays code s n m (Blocked v) (t, e) (λ same. let z : ◌≡◌ {A = ℕ} 0 1 = cc in omega arith)
+      → Made code s (suc n) (on w code n s m (if b then goes t (w.became m v) else ends (Blocked v)) (gave v ∷ []))
+  reached_put v t e false = stays code s n m (Blocked v) (t, e) (λ same. cc)
   reached_put v t e true = later code s n t (gave v ∷ []) _ (λ k fs u. giving e) (ih t (w.became m v))
 
   reached_act : (a : Act) → act code s ≡ a → Made code s (suc n) (on w code n s m (turn w a m) (events_of w a m))

@@ -19,9 +19,7 @@ pub stands : (code : List Instruction) (p : ℤ) (k : ℕ) (op : Op) → k ≡ n
     → ActsAt code p op (get_or code k blank)
 unfolding act
 stands code p k op is inside number form = record {
-  r = grind arith;
-  s = grind arith;
-  t = grind arith;
+  registers = record { r = grind arith; s = grind arith; t = grind arith };
   acts = λ s at. rw (number, is, at, inside, ← is, form);
 }
 
@@ -40,9 +38,10 @@ module _ {M : Type 0} (w : Ways M) (m : M) where
   stopped s p n (Ok _) t k there at next failed h = cc
   stopped {code} {op} {i} s p n (Err x) t k there at next failed h =
       let same : act code s ≡ act_of true (op_number op) i (with_register s 7 n) =
-          there.acts s at ∙ ap (λ q. act_of true (op_number op) i (with_register s 7 q)) (sym next) in
+      there.acts s at ∙ ap (λ q. act_of true (op_number op) i (with_register s 7 q)) (sym next) in
       let back : with_register s 7 p ≡ s =
-          ap (with_register s 7) (sym at) ∙ ap (λ xs. state_of xs s.cells) (set-get_or s.registers 7 (pos 0)) in
-      (ap (λ a. turn w a m) same ∙ h.0,
-      ap (λ u. with_register u 7 p) h.1 ∙ ap (λ xs. state_of xs s.cells) (set-set s.registers 7 n p) ∙ back,
-      h.2)
+      ap (with_register s 7) (sym at) ∙ ap (λ xs. state_of xs s.cells) (set-get_or s.registers 7 (pos 0)) in (
+        ap (λ a. turn w a m) same ∙ h.0,
+        ap (λ u. with_register u 7 p) h.1 ∙ ap (λ xs. state_of xs s.cells) (set-set s.registers 7 n p) ∙ back,
+        h.2,
+      )

@@ -23,11 +23,14 @@ abbrev pub Stepped : {M : Type 0} → Ways M → Act → State → M → Result 
 Stepped w a s m (Ok _) s' m' = turn w a m ≡ goes s' m'
 Stepped w a s m (Err x) s' m' = (turn w a m ≡ ends x) × (s' ≡ s) × (m' ≡ m)
 
--- an instruction of this op acts at this place, with register 7 raised
-pub record ActsAt (code : List Instruction) (p : ℤ) (op : Op) (i : Instruction) : Type 0 where
+pub record NamesRegisters (i : Instruction) : Type 0 where
   pub r : i.r < 8
   pub s : i.s < 8
   pub t : i.t < 8
+
+-- an instruction of this op acts at this place, with register 7 raised
+pub record ActsAt (code : List Instruction) (p : ℤ) (op : Op) (i : Instruction) : Type 0 where
+  pub registers : NamesRegisters i
   pub acts : (s : State) → register s 7 ≡ p → act code s ≡ act_of true (op_number op) i (with_register s 7 (sum p (pos 1)))
 
 -- what stands at a place of the code

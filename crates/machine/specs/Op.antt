@@ -45,12 +45,14 @@ mnemonic Jne = codes "JNE"
 abbrev pub Decodes : ℕ → Result Op UnknownOp → Type 0
 Decodes number r = MatchResult r (λ op. op_number op ≡ number) (λ e. (e.0 ≡ number) × (16 < number))
 
--- whether an op of this number uses its field s, t or d
+-- whether an op of this number uses field s: all but 0 to 2 and 10
 abbrev pub uses_s : ℕ → Bool
 uses_s op = nat_le 3 op && not (op == 10)
 
+-- field t: 3 to 6
 abbrev pub uses_t : ℕ → Bool
 uses_t op = nat_le 3 op && nat_le op 6
 
+-- field d: 7 and above
 abbrev pub uses_d : ℕ → Bool
 uses_d op = nat_le 7 op

@@ -27,7 +27,9 @@ impl Instruction {
         ensures { MatchOption result (formed self.now ≡ false)
             (λ op. (op_number op ≡ self.now.op) × (formed self.now ≡ true)) }
     {
-        Op::try_from(self.op).ok().filter(|&op| self.has_form_of(op))
+        Op::try_from(self.op)
+            .ok()
+            .filter(|&op| self.has_form_of(op))
     }
 
     fn has_form_of(&self, op: Op) -> bool

@@ -1,7 +1,7 @@
-ghost use Rattle.std.specs.Prelude.{◌≡◌, ◌<◌, true, length, unsigned_abs, if◌then◌else◌, Some, None};
+ghost use Rattle.std.specs.Prelude.{◌≡◌, true, length, unsigned_abs, if◌then◌else◌, Some, None};
 ghost use Rattle.machine.specs.Machine.{within, act_of, act};
 ghost use Rattle.machine.specs.Op.{op_number};
-ghost use Rattle.machine.specs.Loop.{store_state, SameMemory, Stepped, Fetched};
+ghost use Rattle.machine.specs.Loop.{store_state, SameMemory, NamesRegisters, Stepped, Fetched};
 
 use crate::instruction::Instruction;
 use crate::op::Op;
@@ -23,7 +23,6 @@ fn index(a: i32, n: usize) -> Option<usize>
 }
 
 // The instruction at a place, with its op, if it has the form.
-#[tactic(auto, unfolding(crate::specs::Machine::act))]
 fn fetch(code: &[Instruction], place: i32) -> Option<(Op, Instruction)>
     ensures { Fetched code.now place result }
 {
@@ -34,9 +33,7 @@ fn fetch(code: &[Instruction], place: i32) -> Option<(Op, Instruction)>
 impl Store<'_> {
     // An instruction of this op acts; register 7 is raised already.
     fn perform<P: Port>(&mut self, op: Op, i: &Instruction, port: &mut P) -> Result<(), Stop>
-        requires r { i.now.r < 8 }
-        requires s { i.now.s < 8 }
-        requires t { i.now.t < 8 }
+        requires { NamesRegisters i.now }
         ensures stepped { Stepped P.Port.ways
             (act_of true (op_number op) i.now (store_state self.old))
             (store_state self.old) (P.Port.meaning port.old)
@@ -82,9 +79,7 @@ impl Store<'_> {
         ensures memory { SameMemory self.old self.new }
     {
         let place = self.registers[7];
-        let Some((op, i)) = fetch(code, place) else {
-            return Err(Stop::Place);
-        };
+        let (op, i) = fetch(code, place).ok_or(Stop::Place)?;
         self.registers[7] = word::add(place, 1);
         let result = self.perform(op, &i, port);
         if result.is_err() {

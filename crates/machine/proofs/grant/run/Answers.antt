@@ -21,7 +21,7 @@ pub returns-in-Err-clause-laws : goal.returns-in-Err-clause-laws
 returns-in-Err-clause-laws g c = (run_is_steps g.P.Port.ways c.args.code.now, grants_add g.P.Port.ways c.args.code.now)
 
 pub returns-clause-outcome : goal.returns-clause-outcome
-returns-clause-outcome g c = 
+returns-clause-outcome g c =
     let told = reached_grant c.loop-steps.steps _ _ (omega arith) c.loop-steps.invariant.reached in
     search rules
 
