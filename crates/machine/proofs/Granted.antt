@@ -1,6 +1,6 @@
 -- A run over its grant, step by step.
-use Rattle.std.proofs.Common.{◌≡◌, ℕ, suc, ◌+◌, ◌-◌, ◌<◌, List, [], sym, ap, ◌∙◌, zero-add, arith}
-use native.Mathlib.Nat.{add-zero, sub-zero}
+use Rattle.std.proofs.Common.{◌≡◌, ℕ, suc, ◌+◌, ◌-◌, ◌<◌, List, [], sym, ap, ◌∙◌, add_assoc, arith}
+use native.Mathlib.Nat.{add-zero}
 use Rattle.port.specs.Ways.{Ways}
 use Rattle.machine.specs.declared.instruction.Instruction.{Instruction}
 use Rattle.machine.specs.declared.stop.Stop.{Stop}
@@ -13,25 +13,13 @@ use Rattle.machine.proofs.Runs.{run_zero, run_ends, run_goes}
 pub record Reached {M : Type 0} (w : Ways M) (code : List Instruction) (grant : ℕ) (s : State) (m : M) (steps : ℕ) (t : State) (k : M) : Type 0 where
   pub rest : told (after steps [] (run_over w code (grant - steps) t k)) ≡ told (run_over w code grant s m)
 
--- what is told after n steps
-abbrev more_by : {M : Type 0} → ℕ → Told M → Told M
-more_by n o = record { stop = o.stop; steps = n + o.steps; state = o.state; port = o.port }
-
 module _ {M : Type 0} {w : Ways M} {code : List Instruction} {grant : ℕ} {s : State} {m : M} where
   pub reached_more : (steps : ℕ) (t u : State) (k l : M) → steps < grant → turn w (act code t) k ≡ goes u l
       → Reached w code grant s m steps t k → Reached w code grant s m (steps + 1) u l
   reached_more steps t u k l more step so_far =
       let j : ℕ = grant - (steps + 1) in
-      let o : Outcome M = run_over w code j u l in
       let left : grant - steps ≡ suc j = omega arith in
-      let count : (steps + 1) + o.steps ≡ steps + (1 + o.steps) = omega arith in
-      record {
-        rest =
-            ap (λ n. record { stop = o.stop; steps = n; state = o.state; port = o.port }) count
-            ∙ ap (λ p. more_by steps (told p)) (sym (run_goes w code j t k u l step))
-            ∙ ap (λ n. more_by steps (told (run_over w code n t k))) (sym left)
-            ∙ so_far.rest;
-      }
+      record { rest = rw add_assoc (rw (left, run_goes w code j t k u l step) at so_far.rest) }
 
   pub reached_stop : (steps : ℕ) (x : Stop) (t : State) (k : M) → steps < grant → turn w (act code t) k ≡ ends x
       → Reached w code grant s m steps t k
@@ -39,16 +27,10 @@ module _ {M : Type 0} {w : Ways M} {code : List Instruction} {grant : ℕ} {s : 
   reached_stop steps x t k more stop so_far =
       let j : ℕ = grant - (steps + 1) in
       let left : grant - steps ≡ suc j = omega arith in
-      ap (λ n. record { stop = x; steps = n; state = t; port = k }) (sym (add-zero steps))
-      ∙ ap (λ p. more_by steps (told p)) (sym (run_ends w code j t k x stop))
-      ∙ ap (λ n. more_by steps (told (run_over w code n t k))) (sym left)
-      ∙ so_far.rest
+      rw (left, run_ends w code j t k x stop, add-zero steps) at so_far.rest
 
   pub reached_grant : (steps : ℕ) (t : State) (k : M) → steps ≡ grant → Reached w code grant s m steps t k
       → record { stop = Spent; steps = steps; state = t; port = k } ≡ told (run_over w code grant s m)
   reached_grant steps t k all so_far =
       let left : grant - steps ≡ 0 = omega arith in
-      ap (λ n. record { stop = Spent; steps = n; state = t; port = k }) (sym (add-zero steps))
-      ∙ ap (λ p. more_by steps (told p)) (sym (run_zero w code t k))
-      ∙ ap (λ n. more_by steps (told (run_over w code n t k))) (sym left)
-      ∙ so_far.rest
+      rw (left, run_zero w code t k, add-zero steps) at so_far.rest

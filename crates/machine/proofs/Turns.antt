@@ -25,10 +25,7 @@ stands code p k op is inside number form = record {
 
 module _ {M : Type 0} (w : Ways M) (m : M) where
   pub take_goes : (f : ℤ → State) (v : ℤ) (k : M) → Took w m (Some v) k → turn w (takes f) m ≡ goes (f (word v)) k
-  take_goes f v k t =
-      let by : Option ℤ → Turn M = λ o. elim o [ Some n ↦ goes (f (word n)) (w.taken m) | None ↦ ends Waiting ] in
-      let left : k ≡ w.taken m = t.after_is ∙ ap (λ o. if_waiting o (w.taken m) m) (sym t.reply_is) in
-      ap by (sym t.reply_is) ∙ ap (goes (f (word v))) (sym left)
+  take_goes f v k t = grind arith
 
   -- a stop changes nothing, once register 7 is put back
   pub stopped : {code : List Instruction} {op : Op} {i : Instruction} (s : State) (p n : ℤ) (r : Result (Unit {0}) Stop) (t : State) (k : M)
@@ -38,10 +35,5 @@ module _ {M : Type 0} (w : Ways M) (m : M) where
   stopped s p n (Ok _) t k there at next failed h = cc
   stopped {code} {op} {i} s p n (Err x) t k there at next failed h =
       let same : act code s ≡ act_of true (op_number op) i (with_register s 7 n) =
-      there.acts s at ∙ ap (λ q. act_of true (op_number op) i (with_register s 7 q)) (sym next) in
-      let back : with_register s 7 p ≡ s =
-      ap (with_register s 7) (sym at) ∙ ap (λ xs. state_of xs s.cells) (set-get_or s.registers 7 (pos 0)) in (
-        ap (λ a. turn w a m) same ∙ h.0,
-        ap (λ u. with_register u 7 p) h.1 ∙ ap (λ xs. state_of xs s.cells) (set-set s.registers 7 n p) ∙ back,
-        h.2,
-      )
+          there.acts s at ∙ ap (λ q. act_of true (op_number op) i (with_register s 7 q)) (sym next) in
+      (ap (λ a. turn w a m) same ∙ h.0, rw (h.1, set-set, ← at, set-get_or), h.2)
