@@ -40,13 +40,10 @@ module _ {M : Type 0} (w : Ways M) (code : List Instruction) where
 -- Steps one after another.
 pub joined : {code : List Instruction} {s t u : State} {n k : ℕ} {es fs : List Event}
     → Steps code s n es t → Steps code t k fs u → Steps code s (n + k) (es ++ fs) u
-joined {code} {s} {u = u} {k = k} {fs = fs} none r = subst (λ z. Steps code s z fs u) (sym (zero-add k)) r
-joined {code} {s} {u = u} {k = k} {fs = fs} (silently {n = n} {es = es} e q) r =
-    subst (λ z. Steps code s z (es ++ fs) u) (sym (suc-add n k)) (silently e (joined q r))
-joined {code} {s} {u = u} {k = k} {fs = fs} (taking {n = n} {es = es} e v fits q) r =
-    subst (λ z. Steps code s z (took v ∷ (es ++ fs)) u) (sym (suc-add n k)) (taking e v fits (joined q r))
-joined {code} {s} {u = u} {k = k} {fs = fs} (giving {v = v} {n = n} {es = es} e q) r =
-    subst (λ z. Steps code s z (gave v ∷ (es ++ fs)) u) (sym (suc-add n k)) (giving e (joined q r))
+joined none r = rw zero-add r
+joined (silently e q) r = rw suc-add (silently e (joined q r))
+joined (taking e v fits q) r = rw suc-add (taking e v fits (joined q r))
+joined (giving e q) r = rw suc-add (giving e (joined q r))
 
 halted : (a : Act) (c : Cause) → a ≡ stops c → Next a (stop_of c)
 halted a (halt r) e = e
@@ -75,8 +72,7 @@ module _ {M : Type 0} (code : List Instruction) (s : State) (n : ℕ) where
       → ((k : ℕ) (fs : List Event) (u : State) → Steps code t k fs u → Steps code s (suc k) (es ++ fs) u)
       → Made code t n o → Made code s (suc n) (after 1 es o)
   later t es o first r = record {
-    way = subst (λ k. Steps code s k (es ++ o.events) o.state) (sym (one-add o.steps))
-        (first o.steps o.events o.state r.way);
+    way = rw one-add (first o.steps o.events o.state r.way);
     next = r.next;
     at_most = omega (arith, r.at_most);
     spent = λ e. omega (arith, r.spent e);
@@ -106,15 +102,14 @@ module _ {M : Type 0} (w : Ways M) (code : List Instruction) (n : ℕ) (s : Stat
   reached_act (stops c) e = stays code s n m (stop_of c) (halted (act code s) c e) (not_spent c)
 
 pub run_is_steps : {M : Type 0} (w : Ways M) (code : List Instruction) → RunIsSteps w code
-run_is_steps w code zero s m = subst (Made code s 0) (sym (run_zero w code s m)) (record {
+run_is_steps w code zero s m = rw run_zero (record {
   way = none;
   next = tt;
   at_most = omega arith;
   spent = λ e. refl;
   full = λ e. refl;
 })
-run_is_steps w code (suc n) s m =
-    subst (Made code s (suc n)) (sym (run_suc w code n s m)) (reached_act w code n s m (run_is_steps w code n) (act code s) refl)
+run_is_steps w code (suc n) s m = rw run_suc (reached_act w code n s m (run_is_steps w code n) (act code s) refl)
 
 -- ---- grants one after another
 
@@ -142,17 +137,11 @@ module _ {M : Type 0} (w : Ways M) (code : List Instruction) where
       let es : List Event = events_of w (act code s) m in
       let o : Outcome M = run_over w code g t k in
       let first : run_over w code (suc g) s m ≡ after 1 es o = run_goes w code g s m t k e in
-      let left : o.stop ≡ Spent = ap (λ p. p.stop) (sym first) ∙ spent in
-      ap (λ n. run_over w code n s m) (suc-add g h)
-      ∙ run_goes w code (g + h) s m t k e
-      ∙ ap (after 1 es) (ih t k left)
-      ∙ after_after 1 o.steps es o.events (run_over w code h o.state o.port)
-      ∙ ap (followed h) (sym first)
+      let left : o.stop ≡ Spent = rw first at spent in
+      rw (suc-add, first, run_goes w code (g + h) s m t k e)
+      (ap (after 1 es) (ih t k left) ∙ after_after 1 o.steps es o.events (run_over w code h o.state o.port))
 
 pub grants_add : {M : Type 0} (w : Ways M) (code : List Instruction) → GrantsAdd w code
-grants_add w code zero h s m spent =
-    ap (λ n. run_over w code n s m) (zero-add h)
-    ∙ after_none (run_over w code h s m)
-    ∙ ap (followed w code h) (sym (run_zero w code s m))
+grants_add w code zero h s m spent = rw (zero-add, run_zero) (after_none (run_over w code h s m))
 grants_add w code (suc g) h s m spent =
     add_turn w code g h s m (λ t k. grants_add w code g h t k) spent (turn w (act code s) m) refl
