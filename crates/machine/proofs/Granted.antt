@@ -1,12 +1,12 @@
 -- A run over its grant, step by step.
-use Rattle.std.proofs.Common.{◌≡◌, ℕ, suc, ◌+◌, ◌-◌, ◌<◌, List, [], sym, ap, ◌∙◌, add_assoc, arith}
-use native.Mathlib.Nat.{add-zero}
+use Rattle.std.proofs.Common.{◌≡◌, ℕ, suc, ◌+◌, ◌-◌, ◌<◌, List, [], add_assoc, arith}
+use Rattle.std.proofs.Math.Nat.{add-zero}
 use Rattle.port.specs.Ways.{Ways}
 use Rattle.machine.specs.declared.instruction.Instruction.{Instruction}
 use Rattle.machine.specs.declared.stop.Stop.{Stop}
 use Rattle.machine.specs.declared.stop.Stop.TheVariants.{Spent}
 use Rattle.machine.specs.Machine.{State, act}
-use Rattle.machine.specs.Run.{ends, goes, turn, Outcome, ended, after, run_over, Told, told}
+use Rattle.machine.specs.Run.{ends, goes, turn, after, run_over, told}
 use Rattle.machine.proofs.Runs.{run_zero, run_ends, run_goes}
 
 -- so many steps are made, and with what the rest of the grant makes they are the whole run

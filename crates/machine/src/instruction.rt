@@ -32,6 +32,7 @@ impl Instruction {
             .filter(|&op| self.has_form_of(op))
     }
 
+    // The same, where the op is known.
     fn has_form_of(&self, op: Op) -> bool
         requires { op_number op ≡ self.now.op }
         ensures { result ≡ formed self.now }

@@ -38,6 +38,7 @@ impl Op {
         self as u8
     }
 
+    // Whether an instruction of this op uses its field s; and so for t and d.
     pub(crate) fn uses_s(self) -> bool
         ensures { result ≡ uses_s (op_number self) }
     {

@@ -1,5 +1,4 @@
-use Rattle.std.proofs.Common.{arith, ◌∙◌, rules}
-use Rattle.machine.specs.Loop.{store_state}
+use Rattle.std.proofs.Common.{arith, rules}
 use Rattle.machine.proofs.Runs.{run_is_steps, grants_add}
 use Rattle.machine.proofs.Granted.{reached_more, reached_stop, reached_grant}
 use Rattle.machine.proofs.grant.run.Goals as goal

@@ -13,6 +13,6 @@ returns-then-is_err-clause-stepped g c =
     let failed : is_err c.perform-result.result ≡ true = grind arith in
     let there = subst (Fetched c.args.code.now _) {y = Some (c.in_ok-op.op, c.in_ok-op.i)} c.in_ok-op.ensures.ok_part c.fetch.ensures in
     let stopped_there = stopped g.P.Port.ways _ s _ _ _ _ _ there
-        (sym (to_z-of_z w32 (register s 7) place)) (to_z-of_z w32 c.add.result next ∙ c.add.ensures)
-        failed c.perform-result.ensures.stepped in
+    (sym (to_z-of_z w32 (register s 7) place)) (to_z-of_z w32 c.add.result next ∙ c.add.ensures)
+    failed c.perform-result.ensures.stepped in
     search rules
