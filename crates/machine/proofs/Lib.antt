@@ -1,4 +1,3 @@
-mod Acts
-pub mod Next
 pub mod Runs
-mod LeftOver
+mod Turns
+mod Granted

@@ -1,5 +1,5 @@
 -- A run by its first act, the steps that it made, and runs one after another.
-use Rattle.std.proofs.Common.{◌≡◌, ℕ, zero, suc, ◌+◌, Bool, true, false, cond, List, [], ◌∷◌, ◌++◌, ℤ, Some, None, Option, sym, refl, ap, ◌∙◌, subst, append_assoc, add_assoc, suc-add, zero-add, one-add, arith, w32}
+use Rattle.std.proofs.Common.{◌≡◌, ℕ, zero, suc, ◌+◌, Bool, true, false, if◌then◌else◌, List, [], ◌∷◌, ◌++◌, ℤ, Some, None, Option, refl, ap, ◌∙◌, append_assoc, add_assoc, suc-add, zero-add, one-add, arith, w32}
 use Rattle.std.proofs.lemmas.Int.{SFits-int_wrap}
 use Rattle.word.specs.Arithmetic.{word}
 use Rattle.port.specs.Ways.{Ways}
@@ -40,13 +40,10 @@ module _ {M : Type 0} (w : Ways M) (code : List Instruction) where
 -- Steps one after another.
 pub joined : {code : List Instruction} {s t u : State} {n k : ℕ} {es fs : List Event}
     → Steps code s n es t → Steps code t k fs u → Steps code s (n + k) (es ++ fs) u
-joined {code} {s} {u = u} {k = k} {fs = fs} none r = subst (λ z. Steps code s z fs u) (sym (zero-add k)) r
-joined {code} {s} {u = u} {k = k} {fs = fs} (silently {n = n} {es = es} e q) r =
-    subst (λ z. Steps code s z (es ++ fs) u) (sym (suc-add n k)) (silently e (joined q r))
-joined {code} {s} {u = u} {k = k} {fs = fs} (taking {n = n} {es = es} e v fits q) r =
-    subst (λ z. Steps code s z (took v ∷ (es ++ fs)) u) (sym (suc-add n k)) (taking e v fits (joined q r))
-joined {code} {s} {u = u} {k = k} {fs = fs} (giving {v = v} {n = n} {es = es} e q) r =
-    subst (λ z. Steps code s z (gave v ∷ (es ++ fs)) u) (sym (suc-add n k)) (giving e (joined q r))
+joined none r = rw zero-add r
+joined (silently e q) r = rw suc-add (silently e (joined q r))
+joined (taking e v fits q) r = rw suc-add (taking e v fits (joined q r))
+joined (giving e q) r = rw suc-add (giving e (joined q r))
 
 halted : (a : Act) (c : Cause) → a ≡ stops c → Next a (stop_of c)
 halted a (halt r) e = e
@@ -55,10 +52,10 @@ halted a address e = e
 halted a place e = e
 
 not_spent : (c : Cause) → stop_of c ≡ Spent → ⊥
-not_spent (halt r) e = let z : ◌≡◌ {A = ℕ} 0 1 = cc in omega arith
-not_spent divisor e = let z : ◌≡◌ {A = ℕ} 0 1 = cc in omega arith
-not_spent address e = let z : ◌≡◌ {A = ℕ} 0 1 = cc in omega arith
-not_spent place e = let z : ◌≡◌ {A = ℕ} 0 1 = cc in omega arith
+not_spent (halt r) e = cc
+not_spent divisor e = cc
+not_spent address e = cc
+not_spent place e = cc
 
 module _ {M : Type 0} (code : List Instruction) (s : State) (n : ℕ) where
   stays : (m : M) (x : Stop) → Next (act code s) x → (x ≡ Spent → ⊥) → Made code s (suc n) (ended x s m)
@@ -75,8 +72,7 @@ module _ {M : Type 0} (code : List Instruction) (s : State) (n : ℕ) where
       → ((k : ℕ) (fs : List Event) (u : State) → Steps code t k fs u → Steps code s (suc k) (es ++ fs) u)
       → Made code t n o → Made code s (suc n) (after 1 es o)
   later t es o first r = record {
-    way = subst (λ k. Steps code s k (es ++ o.events) o.state) (sym (one-add o.steps))
-        (first o.steps o.events o.state r.way);
+    way = rw one-add (first o.steps o.events o.state r.way);
     next = r.next;
     at_most = omega (arith, r.at_most);
     spent = λ e. omega (arith, r.spent e);
@@ -89,14 +85,14 @@ module _ {M : Type 0} (w : Ways M) (code : List Instruction) (n : ℕ) (s : Stat
       → Made code s (suc n) (on w code n s m
       (elim o [ Some v ↦ goes (f (word v)) (w.taken m) | None ↦ ends Waiting ])
       (elim o [ Some v ↦ took (word v) ∷ [] | None ↦ [] ]))
-  reached_take f e None = stays code s n m Waiting (f, e) (λ same. let z : ◌≡◌ {A = ℕ} 0 1 = cc in omega arith)
+  reached_take f e None = stays code s n m Waiting (f, e) (λ same. cc)
   reached_take f e (Some v) =
       later code s n (f (word v)) (took (word v) ∷ []) _ (λ k fs u. taking e (word v) (SFits-int_wrap w32 v))
       (ih (f (word v)) (w.taken m))
 
   reached_put : (v : ℤ) (t : State) → act code s ≡ puts v t → (b : Bool)
-      → Made code s (suc n) (on w code n s m (cond b (goes t (w.became m v)) (ends (Blocked v))) (gave v ∷ []))
-  reached_put v t e false = stays code s n m (Blocked v) (t, e) (λ same. let z : ◌≡◌ {A = ℕ} 0 1 = cc in omega arith)
+      → Made code s (suc n) (on w code n s m (if b then goes t (w.became m v) else ends (Blocked v)) (gave v ∷ []))
+  reached_put v t e false = stays code s n m (Blocked v) (t, e) (λ same. cc)
   reached_put v t e true = later code s n t (gave v ∷ []) _ (λ k fs u. giving e) (ih t (w.became m v))
 
   reached_act : (a : Act) → act code s ≡ a → Made code s (suc n) (on w code n s m (turn w a m) (events_of w a m))
@@ -106,15 +102,14 @@ module _ {M : Type 0} (w : Ways M) (code : List Instruction) (n : ℕ) (s : Stat
   reached_act (stops c) e = stays code s n m (stop_of c) (halted (act code s) c e) (not_spent c)
 
 pub run_is_steps : {M : Type 0} (w : Ways M) (code : List Instruction) → RunIsSteps w code
-run_is_steps w code zero s m = subst (Made code s 0) (sym (run_zero w code s m)) (record {
+run_is_steps w code zero s m = rw run_zero (record {
   way = none;
   next = tt;
   at_most = omega arith;
   spent = λ e. refl;
   full = λ e. refl;
 })
-run_is_steps w code (suc n) s m =
-    subst (Made code s (suc n)) (sym (run_suc w code n s m)) (reached_act w code n s m (run_is_steps w code n) (act code s) refl)
+run_is_steps w code (suc n) s m = rw run_suc (reached_act w code n s m (run_is_steps w code n) (act code s) refl)
 
 -- ---- grants one after another
 
@@ -142,17 +137,11 @@ module _ {M : Type 0} (w : Ways M) (code : List Instruction) where
       let es : List Event = events_of w (act code s) m in
       let o : Outcome M = run_over w code g t k in
       let first : run_over w code (suc g) s m ≡ after 1 es o = run_goes w code g s m t k e in
-      let left : o.stop ≡ Spent = ap (λ p. p.stop) (sym first) ∙ spent in
-      ap (λ n. run_over w code n s m) (suc-add g h)
-      ∙ run_goes w code (g + h) s m t k e
-      ∙ ap (after 1 es) (ih t k left)
-      ∙ after_after 1 o.steps es o.events (run_over w code h o.state o.port)
-      ∙ ap (followed h) (sym first)
+      let left : o.stop ≡ Spent = rw first at spent in
+      rw (suc-add, first, run_goes w code (g + h) s m t k e)
+      (ap (after 1 es) (ih t k left) ∙ after_after 1 o.steps es o.events (run_over w code h o.state o.port))
 
 pub grants_add : {M : Type 0} (w : Ways M) (code : List Instruction) → GrantsAdd w code
-grants_add w code zero h s m spent =
-    ap (λ n. run_over w code n s m) (zero-add h)
-    ∙ after_none (run_over w code h s m)
-    ∙ ap (followed w code h) (sym (run_zero w code s m))
+grants_add w code zero h s m spent = rw (zero-add, run_zero) (after_none (run_over w code h s m))
 grants_add w code (suc g) h s m spent =
     add_turn w code g h s m (λ t k. grants_add w code g h t k) spent (turn w (act code s) m) refl

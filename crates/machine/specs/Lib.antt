@@ -1,3 +1,4 @@
+pub mod Op
 pub mod Form
 pub mod Reason
 pub mod Machine

@@ -1,4 +1,4 @@
-use Rattle.std.specs.Prelude.{ℕ, ◌-◌, Bool, true, false, cond, not, ◌&&◌, List, length, get_or, replicate, ℤ, pos, Some, None, ◌==◌, int_le, int_lt, slice_index_or, slice_set, unsigned_abs}
+use Rattle.std.specs.Prelude.{ℕ, ◌-◌, Bool, true, false, if◌then◌else◌, not, ◌&&◌, List, length, replicate, ℤ, pos, Some, None, ◌==◌, int_le, int_lt, slice_index_or, slice_set, unsigned_abs}
 use Rattle.word.specs.Arithmetic.{sum, difference, product, quotient, is_zero, less}
 use Rattle.machine.specs.declared.instruction.Instruction.{Instruction}
 use Rattle.machine.specs.Form.{formed}
@@ -34,12 +34,12 @@ within a n = int_le (pos 0) a && int_lt a (pos n)
 -- whether a jump goes on this number: 11 JLT, 12 JLE, 13 JGT, 14 JGE, 15 JEQ, 16 JNE
 abbrev pub jumps : ℕ → ℤ → Bool
 jumps op v =
-    cond (op == 11) (less v (pos 0))
-    (cond (op == 12) (int_le v (pos 0))
-    (cond (op == 13) (less (pos 0) v)
-    (cond (op == 14) (int_le (pos 0) v)
-    (cond (op == 15) (is_zero v)
-    (not (is_zero v))))))
+    if op == 11 then less v (pos 0)
+    else if op == 12 then int_le v (pos 0)
+    else if op == 13 then less (pos 0) v
+    else if op == 14 then int_le (pos 0) v
+    else if op == 15 then is_zero v
+    else not (is_zero v)
 
 abbrev pub register : State → ℕ → ℤ
 register s k = slice_index_or s.registers k (pos 0)
@@ -60,18 +60,19 @@ act_of true op i s =
     let a : ℤ = sum i.d x in
     let inside : Bool = within a (length s.cells) in
     let becomes : ℤ → State = with_register s i.r in
-    cond (op == 0) (stops (halt i.r))
-    (cond (op == 1) (takes becomes)
-    (cond (op == 2) (puts (register s i.r) s)
-    (cond (op == 3) (silent (becomes (sum x y)))
-    (cond (op == 4) (silent (becomes (difference x y)))
-    (cond (op == 5) (silent (becomes (product x y)))
-    (cond (op == 6) (elim (quotient x y) [ Some q ↦ silent (becomes q) | None ↦ stops divisor ])
-    (cond (op == 7) (cond inside (silent (becomes (slice_index_or s.cells (unsigned_abs a) (pos 0)))) (stops address))
-    (cond (op == 8) (cond inside (silent (with_cell s (unsigned_abs a) (register s i.r))) (stops address))
-    (cond (op == 9) (silent (becomes a))
-    (cond (op == 10) (silent (becomes i.d))
-    (cond (jumps op (register s i.r)) (silent (with_register s 7 a)) (silent s))))))))))))
+    if op == 0 then stops (halt i.r)
+    else if op == 1 then takes becomes
+    else if op == 2 then puts (register s i.r) s
+    else if op == 3 then silent (becomes (sum x y))
+    else if op == 4 then silent (becomes (difference x y))
+    else if op == 5 then silent (becomes (product x y))
+    else if op == 6 then elim (quotient x y) [ Some q ↦ silent (becomes q) | None ↦ stops divisor ]
+    else if op == 7 then (if inside then silent (becomes (slice_index_or s.cells (unsigned_abs a) (pos 0))) else stops address)
+    else if op == 8 then (if inside then silent (with_cell s (unsigned_abs a) (register s i.r)) else stops address)
+    else if op == 9 then silent (becomes a)
+    else if op == 10 then silent (becomes i.d)
+    else if jumps op (register s i.r) then silent (with_register s 7 a)
+    else silent s
 
 abbrev pub blank : Instruction
 blank = record { op = 0; r = 0; s = 0; t = 0; d = pos 0 }
@@ -80,5 +81,5 @@ blank = record { op = 0; r = 0; s = 0; t = 0; d = pos 0 }
 unfoldable pub act : List Instruction → State → Act
 act code s =
     let p : ℤ = register s 7 in
-    let i : Instruction = get_or code (unsigned_abs p) blank in
-    cond (within p (length code)) (act_of (formed i) i.op i (with_register s 7 (sum p (pos 1)))) (stops place)
+    let i : Instruction = slice_index_or code (unsigned_abs p) blank in
+    if within p (length code) then act_of (formed i) i.op i (with_register s 7 (sum p (pos 1))) else stops place

@@ -1,4 +1,4 @@
-use Rattle.std.specs.Prelude.{◌≡◌, ℕ, zero, suc, ◌+◌, cond, List, [], ◌∷◌, ◌++◌, ℤ, Some, None, FitsSigned}
+use Rattle.std.specs.Prelude.{◌≡◌, ℕ, zero, suc, ◌+◌, if◌then◌else◌, List, [], ◌∷◌, ◌++◌, ℤ, Some, None, FitsSigned}
 use Rattle.std.specs.Int.{w32}
 use Rattle.word.specs.Arithmetic.{word}
 use Rattle.port.specs.Ways.{Ways}
@@ -35,7 +35,7 @@ pub data Turn (M : Type 0) : Type 0 where
 abbrev pub turn : {M : Type 0} → Ways M → Act → M → Turn M
 turn w (silent s) m = goes s m
 turn w (takes f) m = elim (w.waiting m) [ Some v ↦ goes (f (word v)) (w.taken m) | None ↦ ends Waiting ]
-turn w (puts v s) m = cond (w.accepts m v) (goes s (w.became m v)) (ends (Blocked v))
+turn w (puts v s) m = if w.accepts m v then goes s (w.became m v) else ends (Blocked v)
 turn w (stops c) m = ends (stop_of c)
 
 -- the events of an act that is a step

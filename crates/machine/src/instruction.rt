@@ -1,5 +1,8 @@
-ghost use Rattle.std.specs.Prelude.{◌≡◌};
+ghost use Rattle.std.specs.Prelude.{◌≡◌, true, false, MatchOption};
 ghost use Rattle.machine.specs.Form.{formed};
+ghost use Rattle.machine.specs.Op.{op_number};
+
+use crate::op::Op;
 
 // One instruction of the Tiny Machine: an op, three registers and a displacement.
 #[derive(Clone, Copy, PartialEq, Eq, Debug)]
@@ -16,12 +19,29 @@ impl Instruction {
     pub fn has_form(&self) -> bool
         ensures { result ≡ formed self.now }
     {
-        self.op <= 16
-            && self.r <= 7
+        self.formed_op().is_some()
+    }
+
+    // The op of an instruction that has the form.
+    pub(crate) fn formed_op(&self) -> Option<Op>
+        ensures { MatchOption result (formed self.now ≡ false)
+            (λ op. (op_number op ≡ self.now.op) × (formed self.now ≡ true)) }
+    {
+        Op::try_from(self.op)
+            .ok()
+            .filter(|&op| self.has_form_of(op))
+    }
+
+    // The same, where the op is known.
+    fn has_form_of(&self, op: Op) -> bool
+        requires { op_number op ≡ self.now.op }
+        ensures { result ≡ formed self.now }
+    {
+        self.r <= 7
             && self.s <= 7
             && self.t <= 7
-            && (self.t == 0 || (3 <= self.op && self.op <= 6))
-            && (7 <= self.op || self.d == 0)
-            && (self.s == 0 || (3 <= self.op && self.op != 10))
+            && (self.t == 0 || op.uses_t())
+            && (self.d == 0 || op.uses_d())
+            && (self.s == 0 || op.uses_s())
     }
 }

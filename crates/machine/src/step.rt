@@ -1,131 +1,90 @@
-ghost use Rattle.std.specs.Prelude.{◌≡◌, ◌<◌, length, pos, slice_index_or};
-ghost use Rattle.word.specs.Arithmetic.{sum};
-ghost use Rattle.machine.specs.Form.{formed};
-ghost use Rattle.machine.specs.Machine.{state_of, within, jumps, act_of, act};
-ghost use Rattle.machine.specs.Loop.{Stepped, Attempted};
+ghost use Rattle.std.specs.Prelude.{◌≡◌, true, length, unsigned_abs, if◌then◌else◌, Some, None};
+ghost use Rattle.machine.specs.Machine.{within, act_of, act};
+ghost use Rattle.machine.specs.Op.{op_number};
+ghost use Rattle.machine.specs.Loop.{store_state, SameMemory, NamesRegisters, Stepped, Fetched};
 
 use crate::instruction::Instruction;
+use crate::op::Op;
 use crate::stop::Stop;
 use port::Port;
 
-fn is_within(a: i32, n: usize) -> bool
-    ensures { result ≡ within a n }
-{
-    0 <= a && (a as usize) < n
+// What a run reads and writes beside its port.
+#[derive(Drop)]
+pub(crate) struct Store<'m> {
+    pub(crate) registers: &'m mut [i32; 8],
+    pub(crate) cells: &'m mut [i32],
 }
 
-fn jump_goes(op: u8, v: i32) -> bool
-    ensures { result ≡ jumps op v }
+// A number as the index of one of `n` things.
+fn index(a: i32, n: usize) -> Option<usize>
+    ensures { result ≡ if within a n then Some (unsigned_abs a) else None }
 {
-    match op {
-        11 => v < 0,
-        12 => v <= 0,
-        13 => v > 0,
-        14 => v >= 0,
-        15 => v == 0,
-        _ => v != 0,
-    }
+    usize::try_from(a).ok().filter(|&k| k < n)
 }
 
-fn address(i: &Instruction, registers: &[i32; 8]) -> i32
-    requires { i.now.s < 8 }
-    ensures { result ≡ sum i.now.d (slice_index_or registers.now i.now.s (pos 0)) }
+// The instruction at a place, with its op, if it has the form.
+fn fetch(code: &[Instruction], place: i32) -> Option<(Op, Instruction)>
+    ensures { Fetched code.now place result }
 {
-    word::add(i.d, registers[i.s as usize])
+    let i = code[index(place, code.len())?];
+    Some((i.formed_op()?, i))
 }
 
-fn reaches(i: &Instruction, registers: &[i32; 8], cells: &[i32]) -> bool
-    requires { i.now.s < 8 }
-    ensures { result ≡ within (sum i.now.d (slice_index_or registers.now i.now.s (pos 0)))
-        (length cells.now) }
-{
-    is_within(address(i, registers), cells.len())
-}
-
-// The instruction acts; register 7 is raised already.
-fn perform<P: Port>(
-    i: &Instruction,
-    registers: &mut [i32; 8],
-    cells: &mut [i32],
-    port: &mut P,
-) -> Option<Stop>
-    ensures { Stepped P.Port.ways
-        (act_of (formed i.now) i.now.op i.now
-        (state_of registers.old cells.old))
-        (state_of registers.old cells.old) (P.Port.meaning port.old)
-        result (state_of registers.new cells.new) (P.Port.meaning port.new) }
-{
-    let (r, s, t) = (i.r as usize, i.s as usize, i.t as usize);
-    match i.op {
-        _ if !i.has_form() => return Some(Stop::Place),
-        0 => return Some(Stop::Halt(i.r)),
-        1 => match port.take() {
-            Some(v) => registers[r] = v,
-            None => return Some(Stop::Waiting),
-        },
-        2 => {
-            let v = registers[r];
-            if !port.put(v) {
-                return Some(Stop::Blocked(v));
+impl Store<'_> {
+    // An instruction of this op acts; register 7 is raised already.
+    fn perform<P: Port>(&mut self, op: Op, i: &Instruction, port: &mut P) -> Result<(), Stop>
+        requires { NamesRegisters i.now }
+        ensures stepped { Stepped P.Port.ways
+            (act_of true (op_number op) i.now (store_state self.old))
+            (store_state self.old) (P.Port.meaning port.old)
+            result (store_state self.new) (P.Port.meaning port.new) }
+        ensures memory { SameMemory self.old self.new }
+    {
+        let (r, s, t) = (usize::from(i.r), usize::from(i.s), usize::from(i.t));
+        let (v, x, y) = (self.registers[r], self.registers[s], self.registers[t]);
+        let address = word::add(i.d, x);
+        let cell = index(address, self.cells.len()).ok_or(Stop::Address);
+        match op {
+            Op::Halt => return Err(Stop::Halt(i.r)),
+            Op::In => self.registers[r] = port.take().ok_or(Stop::Waiting)?,
+            Op::Out => {
+                if !port.put(v) {
+                    return Err(Stop::Blocked(v));
+                }
             }
+            Op::Add => self.registers[r] = word::add(x, y),
+            Op::Sub => self.registers[r] = word::sub(x, y),
+            Op::Mul => self.registers[r] = word::mul(x, y),
+            Op::Div => self.registers[r] = word::div(x, y).ok_or(Stop::Divisor)?,
+            Op::Ld => self.registers[r] = self.cells[cell?],
+            Op::St => self.cells[cell?] = v,
+            Op::Lda => self.registers[r] = address,
+            Op::Ldc => self.registers[r] = i.d,
+            Op::Jlt if v < 0 => self.registers[7] = address,
+            Op::Jle if v <= 0 => self.registers[7] = address,
+            Op::Jgt if v > 0 => self.registers[7] = address,
+            Op::Jge if v >= 0 => self.registers[7] = address,
+            Op::Jeq if v == 0 => self.registers[7] = address,
+            Op::Jne if v != 0 => self.registers[7] = address,
+            Op::Jlt | Op::Jle | Op::Jgt | Op::Jge | Op::Jeq | Op::Jne => {}
         }
-        3 => registers[r] = word::add(registers[s], registers[t]),
-        4 => registers[r] = word::sub(registers[s], registers[t]),
-        5 => registers[r] = word::mul(registers[s], registers[t]),
-        6 if registers[t] == 0 => return Some(Stop::Divisor),
-        6 => registers[r] = word::div(registers[s], registers[t]).unwrap(),
-        7 if !reaches(i, registers, cells) => return Some(Stop::Address),
-        7 => registers[r] = cells[address(i, registers) as usize],
-        8 if !reaches(i, registers, cells) => return Some(Stop::Address),
-        8 => cells[address(i, registers) as usize] = registers[r],
-        9 => registers[r] = address(i, registers),
-        10 => registers[r] = i.d,
-        11..=16 => {
-            if jump_goes(i.op, registers[r]) {
-                registers[7] = address(i, registers);
-            }
-        }
-        _ => return Some(Stop::Place),
+        Ok(())
     }
-    None
-}
 
-// The next instruction; if it stops, register 7 may be left raised.
-fn attempt<P: Port>(
-    code: &[Instruction],
-    registers: &mut [i32; 8],
-    cells: &mut [i32],
-    port: &mut P,
-) -> Option<Stop>
-    ensures { Attempted P.Port.ways (act code.now (state_of registers.old cells.old))
-        (state_of registers.old cells.old) (P.Port.meaning port.old)
-        result (state_of registers.new cells.new) (P.Port.meaning port.new) }
-{
-    let place = registers[7];
-    if !is_within(place, code.len()) {
-        return Some(Stop::Place);
-    }
-    registers[7] = word::add(place, 1);
-    perform(&code[place as usize], registers, cells, port)
-}
-
-// An instruction that stops has no effect: register 7 is put back.
-pub(crate) fn step<P: Port>(
-    code: &[Instruction],
-    registers: &mut [i32; 8],
-    cells: &mut [i32],
-    port: &mut P,
-) -> Option<Stop>
-    ensures { Stepped P.Port.ways (act code.now (state_of registers.old cells.old))
-        (state_of registers.old cells.old) (P.Port.meaning port.old)
-        result (state_of registers.new cells.new) (P.Port.meaning port.new) }
-{
-    let place = registers[7];
-    match attempt(code, registers, cells, port) {
-        Some(stop) => {
-            registers[7] = place;
-            Some(stop)
+    // An instruction that stops has no effect: register 7 is put back.
+    pub(crate) fn step<P: Port>(&mut self, code: &[Instruction], port: &mut P) -> Result<(), Stop>
+        ensures stepped { Stepped P.Port.ways (act code.now (store_state self.old))
+            (store_state self.old) (P.Port.meaning port.old)
+            result (store_state self.new) (P.Port.meaning port.new) }
+        ensures memory { SameMemory self.old self.new }
+    {
+        let place = self.registers[7];
+        let (op, i) = fetch(code, place).ok_or(Stop::Place)?;
+        self.registers[7] = word::add(place, 1);
+        let result = self.perform(op, &i, port);
+        if result.is_err() {
+            self.registers[7] = place;
         }
-        None => None,
+        result
     }
 }
