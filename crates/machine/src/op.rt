@@ -1,5 +1,5 @@
-ghost use Rattle.std.specs.Prelude.{◌≡◌, Some};
-ghost use Rattle.std.specs.Fmt.{padded};
+ghost use Rattle.std.specs.Prelude.{◌≡◌, ◌++◌, Some, codes};
+ghost use Rattle.std.specs.Fmt.{decimal, padded};
 ghost use Rattle.machine.specs.Op.{op_number, mnemonic, uses_s, uses_t, uses_d, Decodes};
 
 use std::error::Error;
@@ -119,8 +119,11 @@ impl fmt::Display for Op {
 }
 
 impl fmt::Display for UnknownOp {
+    ghost output = { λ e. Some (codes "no op has number " ++ decimal e.0) };
+
     fn fmt<W: fmt::Write>(&self, f: &mut fmt::Formatter<W>) -> fmt::Result {
-        write!(f, "no op has number {}", self.0)
+        let number = self.0;
+        write!(f, "no op has number {number}")
     }
 }
 
