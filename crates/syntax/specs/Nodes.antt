@@ -1,5 +1,5 @@
 -- A tree in an array of nodes.
-use Rattle.std.specs.Prelude.{List, [], ◌∷◌, ◌≡◌, ℕ, zero, suc, ◌<◌, slice_index_or}
+use Rattle.std.specs.Prelude.{List, [], ◌∷◌, ◌≡◌, ℕ, zero, suc, ◌<◌, slice_index_or, ⊤}
 use Rattle.syntax.specs.declared.node.Name as code
 use Rattle.syntax.specs.declared.node.Node.{Node}
 use Rattle.syntax.specs.declared.node.Node.TheVariants.{Nothing, Literal, Variable, Element, Paren, Binary, Assign, AssignElement, Call, Argument, Empty, Expression, Compound, If, IfElse, While, Return, ReturnValue, Statement, Block, NumberLocal, ArrayLocal, NumberParam, ArrayParam, NumberGlobal, ArrayGlobal, Function}
@@ -88,9 +88,9 @@ decode n f (Function t x p i j k) = of_decls (function t (n x) p (f i).params (f
 
 -- the indices that a node holds are below i
 abbrev pub Below : {M : Type 0} → ℕ → Node M → Type 0
-Below i Nothing = Unit {0}
-Below i (Literal p v) = Unit {0}
-Below i (Variable x) = Unit {0}
+Below i Nothing = ⊤
+Below i (Literal p v) = ⊤
+Below i (Variable x) = ⊤
 Below i (Element x j) = j < i
 Below i (Paren p j) = j < i
 Below i (Binary j o p k) = (j < i) × (k < i)
@@ -98,13 +98,13 @@ Below i (Assign x j) = j < i
 Below i (AssignElement x j k) = (j < i) × (k < i)
 Below i (Call x p j) = j < i
 Below i (Argument j k) = (j < i) × (k < i)
-Below i Empty = Unit {0}
+Below i Empty = ⊤
 Below i (Expression j) = j < i
 Below i (Compound j) = j < i
 Below i (If p j k) = (j < i) × (k < i)
 Below i (IfElse p j k l) = (j < i) × (k < i) × (l < i)
 Below i (While p j k) = (j < i) × (k < i)
-Below i (Return p) = Unit {0}
+Below i (Return p) = ⊤
 Below i (ReturnValue p j) = j < i
 Below i (Statement j k) = (j < i) × (k < i)
 Below i (Block j k) = (j < i) × (k < i)

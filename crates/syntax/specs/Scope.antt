@@ -20,7 +20,7 @@ pub record Entry : Type 0 where
 abbrev pub Scope : Type 0
 Scope = List Entry
 
--- the nearest entry of a name, if it is in force
+-- the nearest entry of a name, if the name is in force
 abbrev pub look : List ℕ → Scope → Option Entry
 look x S = find (λ e. bytes_eq x e.text) S
 
@@ -67,10 +67,11 @@ begin = output_entry ∷ input_entry ∷ []
 
 -- ---- each name with its meaning
 
--- a name that is declared, and one that is looked up
+-- the name of a declaration, with what it means
 abbrev pub meant : Name → Spot → Meant
 meant x s = record { place = x.place; spot = Some s }
 
+-- a name that is used, with what it means in the scope, if anything
 abbrev pub found : Scope → Name → Meant
 found S x = record { place = x.place; spot = option_map (λ e. e.spot) (look x.text S) }
 
