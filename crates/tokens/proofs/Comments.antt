@@ -1,6 +1,8 @@
 -- Where a comment ends.
-use Rattle.std.proofs.Common.{◌≡◌, ℕ, ◌+◌, ◌⊎◌, List, [], ◌∷◌, ◌++◌, length, codes, sym, refl, ap, ◌∙◌, subst, inl, inr, append_assoc, arith, length-append}
+use Rattle.std.proofs.Common.{◌≡◌, ℕ, zero, suc, ◌+◌, ◌≤◌, ◌⊎◌, List, [], ◌∷◌, ◌++◌, length, get_or, drop, codes, Some, None, sym, refl, ap, ◌∙◌, subst, inl, inr, append_assoc, add-one, arith, length-append}
+use native.Mathlib.Numerals.{unary_clauses}
 use Rattle.tokens.specs.Lexemes.{Front, Closed, Body}
+use Rattle.tokens.specs.Scanning.{NotClosing, FirstClosing}
 use Rattle.tokens.proofs.Fronts.{clash, front?}
 
 -- the first closing mark of bs stands right before r
@@ -69,3 +71,31 @@ comment_end (a ∷ t) =
         | inr u ↦ inr (unclosed_later a t no_mark u)
       ]
     ]
+
+-- ---- by the index of the mark
+
+front_marks : (a : ℕ) (t : List ℕ) → Front (codes "*/") (a ∷ t) → (2 ≤ length (a ∷ t)) × (a ≡ 42) × (get_or t 0 0 ≡ 47)
+front_marks a t (r, e) =
+    let long = ap length e in
+    (omega arith, cc, ap (λ bs. get_or bs 1 0) e)
+
+-- the same without the first byte
+NotClosing_tail : (a : ℕ) (t : List ℕ) (k : ℕ) → NotClosing (a ∷ t) (k + 1) → NotClosing t k
+NotClosing_tail a t k h = simp add-one (simp add-one at h)
+
+pub ends_at : (bs : List ℕ) (i : ℕ) → FirstClosing bs (Some i) → Ends bs (drop (i + 2) bs)
+ends_at [] i h = absurd (omega (arith, h.0))
+ends_at (a ∷ []) i h = absurd (omega (arith, h.0))
+ends_at (a ∷ b ∷ t) zero h = subst (λ bs. Ends bs t) (cc (h.1, h.2)) (ends_here t)
+ends_at (a ∷ b ∷ t) (suc i) h =
+    let none : Front (codes "*/") (a ∷ b ∷ t) → ⊥ = λ f. let m = front_marks a (b ∷ t) f in h.3 0 (omega arith) m.1 m.2 in
+    let tail : FirstClosing (b ∷ t) (Some i) =
+    (omega (arith, h.0), h.1, simp add-one (simp add-one at h.2), λ k lt. NotClosing_tail a (b ∷ t) k (h.3 (k + 1) (omega arith))) in
+    let later : Ends (a ∷ b ∷ t) (drop (i + 2) (b ∷ t)) = ends_later a (b ∷ t) none _ (ends_at (b ∷ t) i tail) in
+    simp unary_clauses (simp unary_clauses at later)
+
+pub unclosed_by : (bs : List ℕ) → FirstClosing bs None → Unclosed bs
+unclosed_by [] h = unclosed_none
+unclosed_by (a ∷ t) h =
+    let none : Front (codes "*/") (a ∷ t) → ⊥ = λ f. let m = front_marks a t f in h 0 (omega (arith, m.0)) m.1 m.2 in
+    unclosed_later a t none (unclosed_by t (λ k le. NotClosing_tail a t k (h (k + 1) (omega arith))))

@@ -1,10 +1,10 @@
 -- What some bytes begin with.
-use Rattle.std.proofs.Common.{◌≡◌, ℕ, ◌<◌, ◌⊎◌, List, [], ◌∷◌, ◌++◌, length, get_or, Some, sym, refl, ap, inl, inr, arith, Bor}
+use Rattle.std.proofs.Common.{◌≡◌, ℕ, ◌<◌, ◌⊎◌, List, [], ◌∷◌, ◌++◌, length, get_or, sym, refl, ap, inl, inr, arith}
 use Rattle.std.proofs.lemmas.List.{take_rest}
 use Rattle.std.proofs.lemmas.Slice.{first_rest}
 use Rattle.std.proofs.lemmas.Bool.{cases_eq}
 use Rattle.tokens.specs.Lexemes.{Front}
-use Rattle.tokens.specs.Scanning.{rest, After}
+use Rattle.tokens.specs.Scanning.{rest}
 
 pub clash : ◌≡◌ {A = ℕ} 0 1 → ⊥
 clash e = omega arith
@@ -39,11 +39,3 @@ two_front (a ∷ b ∷ bs) h = ap (λ x. a ∷ b ∷ x) (sym (take_rest (a ∷ b
 
 pub one_front : (bs : List ℕ) → 0 < length bs → bs ≡ get_or bs 0 0 ∷ rest 1 bs
 one_front bs h = first_rest bs 0 h
-
-pub after_is : (a b : ℕ) (bs : List ℕ) (r : Bor (List ℕ)) → After a b bs (Some r) → bs ≡ a ∷ b ∷ r.now
-after_is a b bs r h =
-    let whole = two_front bs h.0 in
-    let first = h.1 in
-    let second = h.2 in
-    let tail = h.3 in
-    cc

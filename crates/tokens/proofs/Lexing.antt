@@ -5,7 +5,8 @@ use Rattle.refusal.specs.declared.Refusal.{Refusal}
 use Rattle.refusal.specs.declared.Reason.TheVariants.{SourceTooLong}
 use Rattle.tokens.specs.declared.token.Token.{Token}
 use Rattle.tokens.specs.Lexemes.{Lexeme, Ending, complete, unexpected, unclosed, Lexed}
-use Rattle.tokens.specs.Reply.{refusal, ending_fault, first_fault, fault, start, unless, lexeme_count, lex_reply, TokensAfter, Lexes}
+use Rattle.refusal.specs.Faults.{refusal, unless}
+use Rattle.tokens.specs.Reply.{ending_fault, first_fault, fault, start, lexeme_count, lex_reply, TokensAfter, Lexes}
 use Rattle.tokens.specs.Survey.{Surveyed, Faultless, Filled}
 use Rattle.tokens.proofs.Fronts.{clash}
 use Rattle.tokens.proofs.Total.{total}

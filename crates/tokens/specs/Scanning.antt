@@ -1,7 +1,10 @@
 -- What the functions that look at the front of some bytes answer.
-use Rattle.std.specs.Prelude.{◌≡◌, ℕ, ◌-◌, ◌<◌, true, false, cond, List, [], ◌∷◌, ◌++◌, length, take, drop, Some, None, Option, ◌≢◌, nat_le, slice_index}
+use Rattle.std.specs.Prelude.{◌≡◌, ℕ, ◌+◌, ◌-◌, ◌<◌, ◌≤◌, true, false, if◌then◌else◌, List, [], ◌∷◌, ◌++◌, length, take, drop, Some, None, Ok, Err, Option, Result, ◌≢◌, nat_le, slice_index}
 use Rattle.std.specs.Borrow.{Bor}
 use Rattle.std.specs.List.{AllByRecursion}
+use Rattle.refusal.specs.declared.Refusal.{Refusal}
+use Rattle.refusal.specs.declared.Reason.TheVariants.{NumberTooLarge, UnclosedComment, UnexpectedByte}
+use Rattle.refusal.specs.Faults.{refusal}
 use Rattle.tokens.specs.declared.bytes.Class.{Class}
 use Rattle.tokens.specs.declared.bytes.Class.TheVariants.{Letter, Digit, White, Other}
 use Rattle.tokens.specs.declared.scan.Next.{Next}
@@ -15,16 +18,27 @@ use Rattle.tokens.specs.Reply.{too_large}
 -- ---- bytes
 
 abbrev pub class : ℕ → Class
-class b = cond (letter b) Letter (cond (digit b) Digit (cond (white b) White Other))
+class b = if letter b then Letter else if digit b then Digit else if white b then White else Other
 
 -- the bytes from the nth on, as a slice pattern has them
 abbrev pub rest : ℕ → List ℕ → List ℕ
 rest n bs = take (length bs - n) (drop n bs)
 
--- the bytes after a and b, if bs begins with them
-abbrev pub After : ℕ → ℕ → List ℕ → Option (Bor (List ℕ)) → Type 0
-After a b bs (Some r) = (1 < length bs) × (slice_index bs 0 ≡ a) × (slice_index bs 1 ≡ b) × (r.now ≡ rest 2 bs)
-After a b bs None = Front (a ∷ b ∷ []) bs → ⊥
+-- bs begins with a byte of this class
+pub record Begins (k : Class) (bs : List ℕ) : Type 0 where
+  pub some : 0 < length bs
+  pub first : class (slice_index bs 0) ≡ k
+
+-- no closing mark stands at i
+abbrev pub NotClosing : List ℕ → ℕ → Type 0
+NotClosing bs i = slice_index bs i ≡ 42 → slice_index bs (i + 1) ≢ 47
+
+-- where the first closing mark stands
+abbrev pub FirstClosing : List ℕ → Option ℕ → Type 0
+FirstClosing bs (Some i) =
+    (i + 2 ≤ length bs) × (slice_index bs i ≡ 42) × (slice_index bs (i + 1) ≡ 47)
+    × ((k : ℕ) → k < i → NotClosing bs k)
+FirstClosing bs None = (k : ℕ) → k + 2 ≤ length bs → NotClosing bs k
 
 -- the bytes after the first mark that closes a comment
 abbrev pub CommentEnd : List ℕ → Option (Bor (List ℕ)) → Type 0
@@ -33,7 +47,7 @@ CommentEnd bs None = (x : List ℕ) → Front x bs → Closed x → ⊥
 
 -- a number, unless it is too large
 abbrev pub limited : ℕ → Option ℕ
-limited n = cond (nat_le n 2147483647) (Some n) None
+limited n = if nat_le n 2147483647 then Some n else None
 
 -- ---- marks
 
@@ -75,11 +89,15 @@ pub record Leads (p : ℕ) (bs r : List ℕ) (t : Tok) : Type 0 where
   pub spells : Spells p text t
   pub longest : Longest p text bs
 
+-- why nothing that bs, which stands at p, begins with can be taken
+pub data Fails (p : ℕ) (bs : List ℕ) : Refusal → Type 0 where
+  over_limit : {r : List ℕ} {t : Tok} → Leads p bs r t → too_large t ≡ true → Fails p bs (refusal NumberTooLarge p)
+  open_comment : Lexed p bs [] (unclosed p) → Fails p bs (refusal UnclosedComment p)
+  no_text : Lexed p bs [] (unexpected p) → Fails p bs (refusal UnexpectedByte p)
+
 -- what bs, which stands at p, begins with
-abbrev pub Stands : ℕ → List ℕ → Next → Type 0
-Stands p bs next.End = bs ≡ []
-Stands p bs (next.Gap r) = Skips bs r.now
-Stands p bs (next.Token t r) = Leads p bs r.now (tok t) × (too_large (tok t) ≡ false)
-Stands p bs next.TooLarge = (r : List ℕ) × (t : Tok) × Leads p bs r t × (too_large t ≡ true)
-Stands p bs next.Unclosed = Lexed p bs [] (unclosed p)
-Stands p bs next.Unexpected = Lexed p bs [] (unexpected p)
+abbrev pub Stands : ℕ → List ℕ → Result Next Refusal → Type 0
+Stands p bs (Ok next.End) = bs ≡ []
+Stands p bs (Ok (next.Gap r)) = Skips bs r.now
+Stands p bs (Ok (next.Token t r)) = Leads p bs r.now (tok t) × (too_large (tok t) ≡ false)
+Stands p bs (Err f) = Fails p bs f

@@ -1,6 +1,6 @@
-ghost use Rattle.std.specs.Prelude.{◌≡◌, ◌+◌, ◌^◌, ◌<◌, Err};
-ghost use Rattle.tokens.specs.Reply.{refusal, count_reply, Lexes, UniqueLexemes, PlacesRise, Samples};
-ghost use Rattle.tokens.specs.Survey.{apart, join, Surveyed, Faultless, Filled};
+ghost use Rattle.std.specs.Prelude.{◌≡◌, ◌+◌, ◌^◌, ◌<◌};
+ghost use Rattle.tokens.specs.Reply.{Lexes, UniqueLexemes, PlacesRise, Samples};
+ghost use Rattle.tokens.specs.Survey.{apart, join, counted, Surveyed, Faultless, Filled};
 
 use crate::bytes::{Class, class_of};
 use crate::scan::{Next, next_at};
@@ -13,30 +13,23 @@ pub const MAX_BYTES: usize = 16384;
 pub const MAX_TOKENS: usize = 2048;
 
 // What is kept of the lexemes so far: their number, the end of the last one and the class of its first byte,
-// and the place of the first one too many.
+// and the place of the first one too many, if there is one.
 #[derive(Clone, Copy)]
 struct Seen {
     count: usize,
     end: usize,
     class: Class,
-    surplus: usize,
-}
-
-fn refused(reason: Reason, place: usize) -> Result<usize, Refusal>
-    ensures { result ≡ Err (refusal reason place) }
-{
-    Err(Refusal { reason, place })
+    surplus: Option<usize>,
 }
 
 // Whether one of two classes is that of a word and the other that of a number.
 fn are_apart(a: Class, b: Class) -> bool
     ensures { result ≡ apart a b }
 {
-    match (a, b) {
-        (Class::Letter, Class::Digit) => true,
-        (Class::Digit, Class::Letter) => true,
-        _ => false,
-    }
+    matches!(
+        (a, b),
+        (Class::Letter, Class::Digit) | (Class::Digit, Class::Letter)
+    )
 }
 
 // What is kept after one more lexeme, unless a separator is missing before it.
@@ -45,13 +38,10 @@ fn joined_to(seen: Seen, place: usize, class: Class, end: usize) -> Result<Seen,
     ensures { result ≡ join seen place class end }
 {
     if seen.end == place && are_apart(seen.class, class) {
-        return Err(Refusal {
-            reason: Reason::MissingSeparator,
-            place,
-        });
+        return Err(Reason::MissingSeparator.at(place));
     }
     let surplus = if seen.count == MAX_TOKENS {
-        place
+        Some(place)
     } else {
         seen.surplus
     };
@@ -64,12 +54,12 @@ fn joined_to(seen: Seen, place: usize, class: Class, end: usize) -> Result<Seen,
 }
 
 fn counted(seen: Seen) -> Result<usize, Refusal>
-    ensures { result ≡ count_reply seen.count seen.surplus }
+    ensures { result ≡ counted seen }
 {
-    if seen.count > MAX_TOKENS {
-        return refused(Reason::TooManyTokens, seen.surplus);
+    match seen.surplus {
+        Some(place) => Err(Reason::TooManyTokens.at(place)),
+        None => Ok(seen.count),
     }
-    Ok(seen.count)
 }
 
 // The number of lexemes, or the first fault.
@@ -81,21 +71,18 @@ fn survey(source: &[u8]) -> Result<usize, Refusal>
         count: 0,
         end: 0,
         class: Class::Other,
-        surplus: 0,
+        surplus: None,
     };
     loop {
         let place = source.len() - rest.len();
-        match next_at(place, rest) {
+        match next_at(place, rest)? {
             Next::End => return counted(seen),
             Next::Gap(after) => rest = after,
             Next::Token(_, after) => {
-                let class = class_of(rest[0] as char);
+                let class = class_of(rest[0]);
                 seen = joined_to(seen, place, class, source.len() - after.len())?;
                 rest = after;
             }
-            Next::TooLarge => return refused(Reason::NumberTooLarge, place),
-            Next::Unclosed => return refused(Reason::UnclosedComment, place),
-            Next::Unexpected => return refused(Reason::UnexpectedByte, place),
         }
     }
 }
@@ -107,15 +94,15 @@ fn fill<'a>(source: &'a [u8], tokens: &mut [Token<'a>; MAX_TOKENS])
 {
     let mut rest = source;
     let mut count = 0;
-    loop {
-        match next_at(source.len() - rest.len(), rest) {
+    while let Ok(next) = next_at(source.len() - rest.len(), rest) {
+        match next {
+            Next::End => return,
+            Next::Gap(after) => rest = after,
             Next::Token(token, after) => {
                 tokens[count] = token;
                 count += 1;
                 rest = after;
             }
-            Next::Gap(after) => rest = after,
-            _ => return,
         }
     }
 }
@@ -124,7 +111,7 @@ fn lex_source<'a>(source: &'a [u8], tokens: &mut [Token<'a>; MAX_TOKENS]) -> Res
     ensures { Lexes source.now tokens.old tokens.new result }
 {
     if source.len() > MAX_BYTES {
-        return refused(Reason::SourceTooLong, MAX_BYTES);
+        return Err(Reason::SourceTooLong.at(MAX_BYTES));
     }
     let count = survey(source)?;
     fill(source, tokens);

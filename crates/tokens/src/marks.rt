@@ -1,4 +1,4 @@
-ghost use Rattle.std.specs.Prelude.{◌≡◌, [], ◌∷◌, Decides};
+ghost use Rattle.std.specs.Prelude.{[], ◌∷◌};
 ghost use Rattle.tokens.specs.Scanning.{singles, keywords, Spelt, Double};
 
 use crate::token::Mark;
@@ -40,28 +40,16 @@ pub fn single_symbol(byte: u8) -> Option<Mark>
     }
 }
 
-fn is_text(s: &[u8], text: &[u8]) -> bool
-    ensures { Decides result (s.now ≡ text.now) }
-{
-    s == text
-}
-
 pub fn keyword_of(word: &[u8]) -> Option<Mark>
     ensures { Spelt keywords word.now result }
 {
-    if is_text(word, b"else") {
-        Some(Mark::Else)
-    } else if is_text(word, b"if") {
-        Some(Mark::If)
-    } else if is_text(word, b"int") {
-        Some(Mark::Int)
-    } else if is_text(word, b"return") {
-        Some(Mark::Return)
-    } else if is_text(word, b"void") {
-        Some(Mark::Void)
-    } else if is_text(word, b"while") {
-        Some(Mark::While)
-    } else {
-        None
+    match word {
+        b"else" => Some(Mark::Else),
+        b"if" => Some(Mark::If),
+        b"int" => Some(Mark::Int),
+        b"return" => Some(Mark::Return),
+        b"void" => Some(Mark::Void),
+        b"while" => Some(Mark::While),
+        _ => None,
     }
 }

@@ -1,30 +1,26 @@
-ghost use Rattle.std.specs.Prelude.{◌≡◌, ◌+◌, ◌-◌, ◌*◌, ◌<◌, ◌≤◌, true, length, codes, slice_index};
+ghost use Rattle.std.specs.Prelude.{◌≡◌, ◌+◌, ◌-◌, ◌*◌, ◌≤◌, true, Ok, codes};
 ghost use Rattle.std.specs.List.{AllByRecursion};
-ghost use Rattle.tokens.specs.Lexemes.{letter, digit, decimal, Front};
-ghost use Rattle.tokens.specs.Scanning.{class, limited, Stands};
+ghost use Rattle.tokens.specs.Lexemes.{digit, decimal, Front};
+ghost use Rattle.tokens.specs.Scanning.{limited, Begins, Stands};
 
-use crate::bytes::{
-    Class, after_comment, after_opening, class_of, leading_digits, leading_letters,
-};
+use crate::bytes::{Class, after_comment, class_of, leading_digits, leading_letters};
 use crate::marks::{double_symbol, keyword_of, single_symbol};
 use crate::token::Token;
+use refusal::{Reason, Refusal};
 
 const MAX_NUMBER: u64 = 2147483647;
 
 // What stands at the front of some bytes, and the bytes after it.
-#[derive(Clone, Copy)]
+#[derive(Clone, Copy, PartialEq, Eq, Debug)]
 pub enum Next<'a> {
     End,
     Gap(&'a [u8]),
     Token(Token<'a>, &'a [u8]),
-    TooLarge,
-    Unclosed,
-    Unexpected,
 }
 
 fn word_at<'a>(place: usize, s: &'a [u8]) -> Next<'a>
-    requires { (0 < length s.now) × (letter (slice_index s.now 0) ≡ true) }
-    ensures { Stands place s.now result }
+    requires { Begins Class.Letter s.now }
+    ensures { Stands place s.now (Ok result) }
 {
     let (word, rest) = s.split_at(leading_letters(s));
     match keyword_of(word) {
@@ -35,15 +31,15 @@ fn word_at<'a>(place: usize, s: &'a [u8]) -> Next<'a>
 
 // One more digit, unless the number is then too large.
 fn with_digit(value: u32, byte: u8) -> Option<u32>
-    requires { (value ≤ 2147483647) × (48 ≤ byte) }
+    requires small { value ≤ 2147483647 }
+    requires digit { 48 ≤ byte }
     ensures { result ≡ limited (value * 10 + (byte - 48)) }
 {
-    let next = value as u64 * 10 + (byte - b'0') as u64;
+    let next = u64::from(value) * 10 + u64::from(byte - b'0');
     if next > MAX_NUMBER {
-        None
-    } else {
-        Some(next as u32)
+        return None;
     }
+    Some(next as u32)
 }
 
 // The number that the digits write, unless it is too large.
@@ -58,55 +54,55 @@ fn value_of(digits: &[u8]) -> Option<u32>
     Some(value)
 }
 
-fn number_at<'a>(place: usize, s: &'a [u8]) -> Next<'a>
-    requires { (0 < length s.now) × (digit (slice_index s.now 0) ≡ true) }
+fn number_at<'a>(place: usize, s: &'a [u8]) -> Result<Next<'a>, Refusal>
+    requires { Begins Class.Digit s.now }
     ensures { Stands place s.now result }
 {
     let (digits, rest) = s.split_at(leading_digits(s));
     match value_of(digits) {
-        Some(value) => Next::Token(Token::Number(place, value), rest),
-        None => Next::TooLarge,
+        Some(value) => Ok(Next::Token(Token::Number(place, value), rest)),
+        None => Err(Reason::NumberTooLarge.at(place)),
     }
 }
 
-fn symbol_at<'a>(place: usize, s: &'a [u8]) -> Next<'a>
-    requires other_first { (0 < length s.now) × (class (slice_index s.now 0) ≡ Class.Other) }
+fn symbol_at<'a>(place: usize, s: &'a [u8]) -> Result<Next<'a>, Refusal>
+    requires other_first { Begins Class.Other s.now }
     requires no_comment { Front (codes "/*") s.now → ⊥ }
     ensures { Stands place s.now result }
 {
     if let Some((mark, rest)) = double_symbol(s) {
-        return Next::Token(Token::Mark(place, mark), rest);
+        return Ok(Next::Token(Token::Mark(place, mark), rest));
     }
     match single_symbol(s[0]) {
-        Some(mark) => Next::Token(Token::Mark(place, mark), &s[1..]),
-        None => Next::Unexpected,
+        Some(mark) => Ok(Next::Token(Token::Mark(place, mark), &s[1..])),
+        None => Err(Reason::UnexpectedByte.at(place)),
     }
 }
 
 // A comment or a symbol.
-fn mark_at<'a>(place: usize, s: &'a [u8]) -> Next<'a>
-    requires { (0 < length s.now) × (class (slice_index s.now 0) ≡ Class.Other) }
+fn mark_at<'a>(place: usize, s: &'a [u8]) -> Result<Next<'a>, Refusal>
+    requires { Begins Class.Other s.now }
     ensures { Stands place s.now result }
 {
-    match after_opening(s) {
-        Some(body) => match after_comment(body) {
-            Some(rest) => Next::Gap(rest),
-            None => Next::Unclosed,
-        },
-        None => symbol_at(place, s),
+    let Some(body) = s.strip_prefix(b"/*") else {
+        return symbol_at(place, s);
+    };
+    match after_comment(body) {
+        Some(rest) => Ok(Next::Gap(rest)),
+        None => Err(Reason::UnclosedComment.at(place)),
     }
 }
 
-pub fn next_at<'a>(place: usize, s: &'a [u8]) -> Next<'a>
+pub fn next_at<'a>(place: usize, s: &'a [u8]) -> Result<Next<'a>, Refusal>
     ensures { Stands place s.now result }
 {
-    if s.len() == 0 {
-        return Next::End;
-    }
-    match class_of(s[0] as char) {
-        Class::Letter => word_at(place, s),
+    let [first, rest @ ..] = s else {
+        return Ok(Next::End);
+    };
+    match class_of(*first) {
+        Class::Letter => Ok(word_at(place, s)),
         Class::Digit => number_at(place, s),
-        Class::White => Next::Gap(&s[1..]),
+        Class::White => Ok(Next::Gap(rest)),
         Class::Other => mark_at(place, s),
     }
 }

@@ -5,7 +5,7 @@ use Rattle.tokens.proofs.lexer.lex_source.Goals as goal
 
 pub returns-then-source-gt-MAX_BYTES : goal.returns-then-source-gt-MAX_BYTES
 returns-then-source-gt-MAX_BYTES c =
-    rw c.refused.ensures (too_long c.args.source.now c.args.tokens.now c.if-source-gt-MAX_BYTES.true)
+    rw c.at.ensures (too_long c.args.source.now c.args.tokens.now c.if-source-gt-MAX_BYTES.true)
 
 pub returns-in_err-count : goal.returns-in_err-count
 returns-in_err-count c =

@@ -1,12 +1,8 @@
 use Rattle.std.proofs.Common.{get_or, sym, arith}
-use Rattle.std.proofs.lemmas.List.{nil_from_length}
 use Rattle.tokens.proofs.Fronts.{one_front}
 use Rattle.tokens.proofs.Texts.{class_white}
 use Rattle.tokens.proofs.Standing.{skips_blank}
 use Rattle.tokens.proofs.scan.next_at.Goals as goal
-
-pub returns-then-s-eq0 : goal.returns-then-s-eq0
-returns-then-s-eq0 c = nil_from_length c.args.s.now c.if-s-eq0.true
 
 pub returns-in-White : goal.returns-in-White
 returns-in-White c =

@@ -9,7 +9,7 @@ with_digit-requires c =
     let digits = c.args.digits.now in
     let i = c.loop-d.d-index in
     let is_digit = All-get_or (λ d. digit d ≡ true) digits i 0 c.loop-d-test.true c.requires in
-    (c.loop-d.invariant.0, digit_least (get_or digits i 0) is_digit)
+    record { small = c.loop-d.invariant.0; digit = digit_least (get_or digits i 0) is_digit }
 
 pub returns-in_err-value : goal.returns-in_err-value
 returns-in_err-value c =
