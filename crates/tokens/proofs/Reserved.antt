@@ -3,7 +3,7 @@ use Rattle.std.proofs.Common.{◌≡◌, ℕ, ◌<◌, Bool, true, false, cond, 
 use denote.Enum.Bare.{sameb, same_true}
 use Rattle.std.specs.List.{AllByRecursion, list_all}
 use Rattle.std.specs.Str.{bytes_eq}
-use Rattle.std.proofs.ByRecursion.{All-weaker}
+use Rattle.std.proofs.lemmas.List.Sums.{AllPass-from_list_all}
 use Rattle.std.proofs.lemmas.Bool.{and_parts, ltb-true, eqb-true}
 use Rattle.tokens.specs.contracts.token.Mark.{the_type}
 use Rattle.tokens.specs.declared.bytes.Class.{Class}
@@ -40,6 +40,10 @@ every P k d s RightBracket = s.1.1.1.1.1.1.1.1.1.1.1.1.0
 every P k d s LeftBrace = s.1.1.1.1.1.1.1.1.1.1.1.1.1.0
 every P k d s RightBrace = s.1.1.1.1.1.1.1.1.1.1.1.1.1.1.0
 
+pub weaker : {P Q : Mark → Type 0} → ((m : Mark) → P m → Q m) → (ms : List Mark) → AllByRecursion P ms → AllByRecursion Q ms
+weaker f [] p = tt
+weaker f (m ∷ ms) p = (f m p.0, weaker f ms p.1)
+
 pub all_both : {P Q R : Mark → Type 0} → ((m : Mark) → P m → Q m → R m) → (ms : List Mark) → AllByRecursion P ms → AllByRecursion Q ms → AllByRecursion R ms
 all_both f [] p q = tt
 all_both f (m ∷ ms) p q = (f m p.0 q.0, all_both f ms p.1 q.1)
@@ -52,7 +56,7 @@ tested test (x ∷ xs) e = let both = and_parts (test x) (list_all test xs) e in
 
 by_test : (P : Mark → Type 0) (test : Mark → Bool) → ((m : Mark) → test m ≡ true → P m) → (ms : List Mark)
     → list_all test ms ≡ true → AllByRecursion P ms
-by_test P test sound ms e = All-weaker (λ m. test m ≡ true) P sound ms (tested test ms e)
+by_test P test sound ms e = weaker sound ms (tested test ms e)
 
 abbrev of_letters : Mark → Bool
 of_letters m = ltb 0 (length (spelling m)) && list_all letter (spelling m)
@@ -60,7 +64,7 @@ of_letters m = ltb 0 (length (spelling m)) && list_all letter (spelling m)
 letters_run : (m : Mark) → of_letters m ≡ true → Run letter (spelling m)
 letters_run m e =
     let (some, letters) = and_parts (ltb 0 (length (spelling m))) (list_all letter (spelling m)) e in
-    (ltb-true 0 (length (spelling m)) some, tested letter (spelling m) letters)
+    (ltb-true 0 (length (spelling m)) some, AllPass-from_list_all letter (spelling m) letters)
 
 pub keyword_runs : AllByRecursion (λ m. Run letter (spelling m)) keywords
 keyword_runs = by_test (λ m. Run letter (spelling m)) of_letters letters_run keywords refl

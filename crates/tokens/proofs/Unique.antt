@@ -1,6 +1,5 @@
 -- A source has only one list of lexemes.
 use Rattle.std.proofs.Common.{◌≡◌, ℕ, ◌+◌, ◌<◌, true, false, cond, ◌&&◌, eqb, List, [], ◌∷◌, ◌++◌, length, get_or, drop, codes, sym, refl, ap, ◌∙◌, subst, inl, inr, append-nil, arith, length-append}
-use Rattle.std.proofs.ByRecursion.{All-weaker}
 use Rattle.std.proofs.lemmas.List.{nil_from_length}
 use Rattle.std.proofs.lemmas.Bool.{cases_Bool, and_parts, eqb-true}
 use Rattle.tokens.specs.declared.bytes.Class.TheVariants.{Digit, Other}
@@ -12,7 +11,7 @@ use Rattle.tokens.specs.Reply.{UniqueLexemes}
 use Rattle.tokens.specs.Scanning.{class, keywords, doubles, singles, Leads}
 use Rattle.tokens.proofs.Fronts.{clash, longer, shorter, compared}
 use Rattle.tokens.proofs.Comments.{Unclosed}
-use Rattle.tokens.proofs.Reserved.{every, first, keyword_runs, double_firsts, single_firsts, same_spelling}
+use Rattle.tokens.proofs.Reserved.{weaker, every, first, keyword_runs, double_firsts, single_firsts, same_spelling}
 use Rattle.tokens.proofs.Total.{lexeme_of}
 use Rattle.tokens.proofs.Texts.{digit_class, word_first, some_bytes, not_white, first_byte}
 
@@ -53,7 +52,7 @@ same_bodies x r y v e a b =
 
 digit_first : (x : List ℕ) → Run digit x → class (get_or x 0 0) ≡ Digit
 digit_first [] run = absurd (omega (arith, run.0))
-digit_first (b ∷ x) run = digit_class b run.1.0
+digit_first (b ∷ x) run = digit_class b (run.1 0 0 (omega arith))
 
 no_digits : (m : Mark) → class (first m) ≡ Digit → ⊥
 no_digits =
@@ -61,9 +60,9 @@ no_digits =
     let symbol : (m : Mark) → class (first m) ≡ Other → not_digit m = λ m o d. clash (cc) in
     let word : (m : Mark) → Run letter (spelling m) → not_digit m = λ m run d. clash (cc (word_first (spelling m) run)) in
     every not_digit
-    (All-weaker (λ m. Run letter (spelling m)) not_digit word keywords keyword_runs)
-    (All-weaker (λ m. class (first m) ≡ Other) not_digit symbol doubles double_firsts)
-    (All-weaker (λ m. class (first m) ≡ Other) not_digit symbol singles single_firsts)
+    (weaker word keywords keyword_runs)
+    (weaker symbol doubles double_firsts)
+    (weaker symbol singles single_firsts)
 
 mark_number : (m : Mark) (x : List ℕ) → Run digit x → spelling m ≡ x → ⊥
 mark_number m x run e = no_digits m (ap (λ y. class (get_or y 0 0)) e ∙ digit_first x run)

@@ -1,6 +1,6 @@
 -- What the tokens of a source are.
 use Rattle.std.specs.Prelude.{◌≡◌, ℕ, ◌+◌, ◌-◌, ◌<◌, ◌≤◌, Bool, true, false, ◌&&◌, ◌||◌, List, [], ◌∷◌, ◌++◌, map, length, codes, ◌==◌, ◌≢◌, nat_le}
-use Rattle.std.specs.List.{AllByRecursion}
+use Rattle.std.specs.List.{AllPass}
 use Rattle.std.specs.Int.Digits.{number_from_digits}
 use Rattle.tokens.specs.declared.token.Mark.{Mark}
 use Rattle.tokens.specs.declared.token.Mark.TheVariants.{Else, If, Int, Return, Void, While, Plus, Minus, Star, Slash, Less, LessEqual, Greater, GreaterEqual, Equal, NotEqual, Assign, Semicolon, Comma, LeftParen, RightParen, LeftBracket, RightBracket, LeftBrace, RightBrace}
@@ -56,7 +56,7 @@ spelling RightBrace = codes "}"
 
 -- one byte or more, and each passes the test
 abbrev pub Run : (ℕ → Bool) → List ℕ → Type 0
-Run test x = (0 < length x) × AllByRecursion (λ b. test b ≡ true) x
+Run test x = (0 < length x) × AllPass test x
 
 -- the number that decimal digits write
 abbrev pub decimal : List ℕ → ℕ

@@ -1,5 +1,5 @@
 ghost use Rattle.std.specs.Prelude.{◌≡◌, ◌+◌, ◌-◌, ◌*◌, ◌≤◌, true, Ok, codes};
-ghost use Rattle.std.specs.List.{AllByRecursion};
+ghost use Rattle.std.specs.List.{AllPass};
 ghost use Rattle.tokens.specs.Lexemes.{digit, decimal, Front};
 ghost use Rattle.tokens.specs.Scanning.{limited, Begins, Stands};
 
@@ -8,7 +8,7 @@ use crate::marks::{double_symbol, keyword_of, single_symbol};
 use crate::token::Token;
 use refusal::{Reason, Refusal};
 
-const MAX_NUMBER: u64 = 2147483647;
+const MAX_NUMBER: u32 = 2147483647;
 
 // What stands at the front of some bytes, and the bytes after it.
 #[derive(Clone, Copy, PartialEq, Eq, Debug)]
@@ -31,20 +31,19 @@ fn word_at<'a>(place: usize, s: &'a [u8]) -> Next<'a>
 
 // One more digit, unless the number is then too large.
 fn with_digit(value: u32, byte: u8) -> Option<u32>
-    requires small { value ≤ 2147483647 }
-    requires digit { 48 ≤ byte }
+    requires { 48 ≤ byte }
     ensures { result ≡ limited (value * 10 + (byte - 48)) }
 {
-    let next = u64::from(value) * 10 + u64::from(byte - b'0');
-    if next > MAX_NUMBER {
-        return None;
-    }
-    Some(next as u32)
+    let digit = u32::from(byte - b'0');
+    value
+        .checked_mul(10)?
+        .checked_add(digit)
+        .filter(|n| *n <= MAX_NUMBER)
 }
 
 // The number that the digits write, unless it is too large.
 fn value_of(digits: &[u8]) -> Option<u32>
-    requires { AllByRecursion (λ d. digit d ≡ true) digits.now }
+    requires { AllPass digit digits.now }
     ensures { result ≡ limited (decimal digits.now) }
 {
     let mut value = 0;
