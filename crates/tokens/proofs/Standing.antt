@@ -1,14 +1,15 @@
 -- What stands at the front of some bytes.
-use Rattle.std.proofs.Common.{◌≡◌, ℕ, ◌<◌, true, false, List, [], ◌∷◌, ◌++◌, length, get_or, take, codes, sym, ap, ◌∙◌, subst, arith}
+use Rattle.std.proofs.Common.{◌≡◌, ℕ, ◌<◌, true, false, List, [], ◌∷◌, ◌++◌, length, get_or, take, codes, Some, None, sym, refl, ap, ◌∙◌, subst, inl, inr, arith, Bor}
 use Rattle.std.specs.List.{prefix_len, AllByRecursion}
 use Rattle.tokens.specs.declared.bytes.Class.TheVariants.{Other}
 use Rattle.tokens.specs.declared.token.Mark.{Mark}
 use Rattle.tokens.specs.Tokens.{Tok, mark, number, name}
 use Rattle.tokens.specs.Lexemes.{letter, digit, white, spelling, decimal, Run, Spells, reserved, digits, letters, Front, Longest, blank, comment, Lexed, unclosed, unclosed_comment, unexpected, unexpected_byte}
-use Rattle.tokens.specs.Scanning.{class, keywords, doubles, singles, Skips, Leads}
+use Rattle.tokens.specs.Scanning.{class, rest, keywords, doubles, singles, Begins, Symbol, Skips, Leads}
+use Rattle.tokens.proofs.Fronts.{one_front, two_front}
 use Rattle.tokens.proofs.Comments.{Ends, Unclosed}
 use Rattle.tokens.proofs.Reserved.{all_both, single_lengths}
-use Rattle.tokens.proofs.Texts.{is_run, word_longest, number_longest, no_mark, Absent, no_text, double_longest, single_longest}
+use Rattle.tokens.proofs.Texts.{class_not_white, is_run, word_longest, number_longest, no_mark, Absent, no_text, double_longest, single_longest}
 
 pub spelt_mark : (p : ℕ) (x : List ℕ) (m : Mark) → x ≡ spelling m → Spells p x (mark p m)
 spelt_mark p x m e = subst (λ y. Spells p y (mark p m)) (sym e) reserved
@@ -89,3 +90,22 @@ module _ (p : ℕ) (bs : List ℕ) (k : class (get_or bs 0 0) ≡ Other) where
     no_token w two one =
         let none = subst (λ y. (x : List ℕ) (t : Tok) → Spells p x t → Front x y → ⊥) e (no_text p bs k two one) in
         subst (λ y. Lexed p y [] (unexpected p)) (sym e) (unexpected_byte w none)
+
+pub symbol_leads : (p : ℕ) (bs : List ℕ) → Begins Other bs → (Front (codes "/*") bs → ⊥) → (m : Mark) (r : Bor (List ℕ))
+    → Symbol bs (Some (m, r)) → Leads p bs r.now (mark p m)
+symbol_leads p bs k clear m r (inl (two, spelt, tail)) =
+    let a = get_or bs 0 0 in
+    let b = get_or bs 1 0 in
+    let whole : bs ≡ a ∷ b ∷ r.now = two_front bs two ∙ ap (λ x. a ∷ b ∷ x) (sym tail) in
+    double_leads p bs k.first clear (a ∷ b ∷ []) m spelt whole refl
+symbol_leads p bs k clear m r (inr (no_double, some, spelt, tail)) =
+    let a = get_or bs 0 0 in
+    let whole : bs ≡ a ∷ r.now = one_front bs some ∙ ap (λ x. a ∷ x) (sym tail) in
+    single_leads p bs k.first clear (a ∷ []) m spelt whole no_double refl
+
+pub no_symbol : (p : ℕ) (bs : List ℕ) → Begins Other bs → Symbol bs None → Lexed p bs [] (unexpected p)
+no_symbol p bs k (no_double, no_single) =
+    let b = get_or bs 0 0 in
+    let whole = one_front bs k.some in
+    let one = no_singles p bs k.first b (rest 1 bs) whole (no_single k.some) in
+    no_token p bs k.first b (rest 1 bs) whole (class_not_white b k.first) no_double one

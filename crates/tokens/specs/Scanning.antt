@@ -1,5 +1,5 @@
 -- What the functions that look at the front of some bytes answer.
-use Rattle.std.specs.Prelude.{◌≡◌, ℕ, ◌+◌, ◌-◌, ◌<◌, ◌≤◌, true, false, if◌then◌else◌, List, [], ◌∷◌, ◌++◌, length, take, drop, Some, None, Ok, Err, Option, Result, ◌≢◌, nat_le, slice_index}
+use Rattle.std.specs.Prelude.{◌≡◌, ℕ, ◌+◌, ◌-◌, ◌<◌, ◌≤◌, ◌⊎◌, true, false, if◌then◌else◌, List, [], ◌∷◌, ◌++◌, length, take, drop, Some, None, Ok, Err, Option, Result, ◌≢◌, nat_le, slice_index}
 use Rattle.std.specs.Borrow.{Bor}
 use Rattle.std.specs.List.{AllByRecursion}
 use Rattle.refusal.specs.declared.Refusal.{Refusal}
@@ -73,6 +73,13 @@ Spelt ms x None = AllByRecursion (λ m. x ≢ spelling m) ms
 abbrev pub Double : List ℕ → Option (Mark × Bor (List ℕ)) → Type 0
 Double bs (Some s) = (1 < length bs) × (slice_index bs 0 ∷ slice_index bs 1 ∷ [] ≡ spelling s.0) × (s.1.now ≡ rest 2 bs)
 Double bs None = AllByRecursion (λ m. Front (spelling m) bs → ⊥) doubles
+
+-- the symbol at the front, the longer one where there are two, and the bytes after it
+abbrev pub Symbol : List ℕ → Option (Mark × Bor (List ℕ)) → Type 0
+Symbol bs (Some s) =
+    Double bs (Some s)
+    ⊎ (Double bs None × (0 < length bs) × (slice_index bs 0 ∷ [] ≡ spelling s.0) × (s.1.now ≡ rest 1 bs))
+Symbol bs None = Double bs None × ((0 < length bs) → Spelt singles (slice_index bs 0 ∷ []) None)
 
 -- ---- parts
 

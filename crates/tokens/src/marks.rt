@@ -1,23 +1,10 @@
 ghost use Rattle.std.specs.Prelude.{[], ◌∷◌};
-ghost use Rattle.tokens.specs.Scanning.{singles, keywords, Spelt, Double};
+ghost use Rattle.tokens.specs.Scanning.{singles, keywords, Spelt, Symbol};
 
 use crate::token::Mark;
 
-// A symbol of two bytes, and the bytes after it.
-pub fn double_symbol(s: &[u8]) -> Option<(Mark, &[u8])>
-    ensures { Double s.now result }
-{
-    match s {
-        [b'<', b'=', rest @ ..] => Some((Mark::LessEqual, rest)),
-        [b'>', b'=', rest @ ..] => Some((Mark::GreaterEqual, rest)),
-        [b'=', b'=', rest @ ..] => Some((Mark::Equal, rest)),
-        [b'!', b'=', rest @ ..] => Some((Mark::NotEqual, rest)),
-        _ => None,
-    }
-}
-
 // The symbol of one byte.
-pub fn single_symbol(byte: u8) -> Option<Mark>
+fn single_symbol(byte: u8) -> Option<Mark>
     ensures { Spelt singles (byte ∷ []) result }
 {
     match byte {
@@ -37,6 +24,20 @@ pub fn single_symbol(byte: u8) -> Option<Mark>
         b'{' => Some(Mark::LeftBrace),
         b'}' => Some(Mark::RightBrace),
         _ => None,
+    }
+}
+
+// The symbol in front, and the bytes after it.
+pub fn symbol(s: &[u8]) -> Option<(Mark, &[u8])>
+    ensures { Symbol s.now result }
+{
+    match s {
+        [b'<', b'=', rest @ ..] => Some((Mark::LessEqual, rest)),
+        [b'>', b'=', rest @ ..] => Some((Mark::GreaterEqual, rest)),
+        [b'=', b'=', rest @ ..] => Some((Mark::Equal, rest)),
+        [b'!', b'=', rest @ ..] => Some((Mark::NotEqual, rest)),
+        [first, rest @ ..] => Some((single_symbol(*first)?, rest)),
+        [] => None,
     }
 }
 

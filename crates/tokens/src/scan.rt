@@ -4,7 +4,7 @@ ghost use Rattle.tokens.specs.Lexemes.{digit, decimal, Front};
 ghost use Rattle.tokens.specs.Scanning.{limited, Begins, Stands};
 
 use crate::bytes::{Class, after_comment, class_of, leading_digits, leading_letters};
-use crate::marks::{double_symbol, keyword_of, single_symbol};
+use crate::marks::{keyword_of, symbol};
 use crate::token::Token;
 use refusal::{Reason, Refusal};
 
@@ -58,10 +58,8 @@ fn number_at<'a>(place: usize, s: &'a [u8]) -> Result<Next<'a>, Refusal>
     ensures { Stands place s.now result }
 {
     let (digits, rest) = s.split_at(leading_digits(s));
-    match value_of(digits) {
-        Some(value) => Ok(Next::Token(Token::Number(place, value), rest)),
-        None => Err(Reason::NumberTooLarge.at(place)),
-    }
+    let value = value_of(digits).ok_or(Reason::NumberTooLarge.at(place))?;
+    Ok(Next::Token(Token::Number(place, value), rest))
 }
 
 fn symbol_at<'a>(place: usize, s: &'a [u8]) -> Result<Next<'a>, Refusal>
@@ -69,32 +67,17 @@ fn symbol_at<'a>(place: usize, s: &'a [u8]) -> Result<Next<'a>, Refusal>
     requires no_comment { Front (codes "/*") s.now → ⊥ }
     ensures { Stands place s.now result }
 {
-    if let Some((mark, rest)) = double_symbol(s) {
-        return Ok(Next::Token(Token::Mark(place, mark), rest));
-    }
-    match single_symbol(s[0]) {
-        Some(mark) => Ok(Next::Token(Token::Mark(place, mark), &s[1..])),
-        None => Err(Reason::UnexpectedByte.at(place)),
-    }
-}
-
-// A comment or a symbol.
-fn mark_at<'a>(place: usize, s: &'a [u8]) -> Result<Next<'a>, Refusal>
-    requires { Begins Class.Other s.now }
-    ensures { Stands place s.now result }
-{
-    let Some(body) = s.strip_prefix(b"/*") else {
-        return symbol_at(place, s);
-    };
-    match after_comment(body) {
-        Some(rest) => Ok(Next::Gap(rest)),
-        None => Err(Reason::UnclosedComment.at(place)),
-    }
+    let (mark, rest) = symbol(s).ok_or(Reason::UnexpectedByte.at(place))?;
+    Ok(Next::Token(Token::Mark(place, mark), rest))
 }
 
 pub fn next_at<'a>(place: usize, s: &'a [u8]) -> Result<Next<'a>, Refusal>
     ensures { Stands place s.now result }
 {
+    if let Some(body) = s.strip_prefix(b"/*") {
+        let rest = after_comment(body).ok_or(Reason::UnclosedComment.at(place))?;
+        return Ok(Next::Gap(rest));
+    }
     let [first, rest @ ..] = s else {
         return Ok(Next::End);
     };
@@ -102,6 +85,6 @@ pub fn next_at<'a>(place: usize, s: &'a [u8]) -> Result<Next<'a>, Refusal>
         Class::Letter => Ok(word_at(place, s)),
         Class::Digit => number_at(place, s),
         Class::White => Ok(Next::Gap(rest)),
-        Class::Other => mark_at(place, s),
+        Class::Other => symbol_at(place, s),
     }
 }

@@ -1,4 +1,6 @@
-use Rattle.std.proofs.Common.{◌≡◌, ℕ, get_or, take, refl, ap, ◌∙◌, arith}
+use Rattle.std.proofs.Common.{◌≡◌, ℕ, Some, None, Err, rules, get_or, take, sym, refl, ap, ◌∙◌, arith}
+use Rattle.refusal.specs.declared.Reason.TheVariants.{NumberTooLarge}
+use Rattle.refusal.specs.Faults.{refusal}
 use Rattle.std.specs.List.{prefix_len}
 use Rattle.std.proofs.lemmas.Bool.{lt-ltb, le-ltb}
 use Rattle.tokens.specs.Tokens.{number}
@@ -24,17 +26,20 @@ value_of-requires c =
     (all_digits c.args.place c.args.s.now c.split_at.result.0.now c.split_at.result.1.now c.requires.some
     c.split_at.ensures.by_index.0 (class_digit (get_or c.args.s.now 0 0) c.requires.first) (run (goal.at.value_of-requires c).After-split_at)).1
 
-pub returns-in-Some : goal.returns-in-Some
-returns-in-Some c =
-    let value = c.in-Some.value in
-    let fits = limited_some (decimal c.split_at.result.0.now) value c.in-Some.ensures in (
-      leads (goal.at.returns-in-Some c).After-split_at value fits.1,
+pub returns-in_err-value : goal.returns-in_err-value
+returns-in_err-value c =
+    let value = decimal c.split_at.result.0.now in
+    let none : c.value_of.result ≡ None = search rules in
+    let refused : c.from_residual.result ≡ Err (refusal NumberTooLarge c.args.place) = search rules in
+    rw refused
+    (over_limit (leads (goal.at.returns-in_err-value c).After-split_at value refl)
+    (lt-ltb 2147483647 value (limited_none value (sym none ∙ c.value_of.ensures))))
+
+pub returns : goal.returns
+returns c =
+    let value = c.in_ok-value.value in
+    let some : c.value_of.result ≡ Some value = search rules in
+    let fits = limited_some (decimal c.split_at.result.0.now) value (sym some ∙ c.value_of.ensures) in (
+      leads (goal.at.returns c).After-split_at value fits.1,
       le-ltb 2147483647 value (omega (arith, fits.0, fits.1)),
     )
-
-pub returns-in-None : goal.returns-in-None
-returns-in-None c =
-    let value = decimal c.split_at.result.0.now in
-    rw c.at.ensures
-    (over_limit (leads (goal.at.returns-in-None c).After-split_at value refl)
-    (lt-ltb 2147483647 value (limited_none value c.in-None.ensures)))
