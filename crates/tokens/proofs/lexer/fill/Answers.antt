@@ -1,5 +1,5 @@
 use Rattle.std.proofs.Common.{rules}
-use Rattle.tokens.proofs.Total.{skips_shorter, leads_shorter}
+use Rattle.tokens.proofs.Total.{leads_shorter}
 use Rattle.tokens.proofs.Filling.{filling_start, filling_gap, has_room, filling_lexeme, filled_end, filled_fault}
 use Rattle.tokens.proofs.lexer.fill.Goals as goal
 
@@ -8,9 +8,6 @@ loop-next-init c = filling_start c.args.source.now c.args.tokens.now (search rul
 
 pub returns-in-End : goal.returns-in-End
 returns-in-End c = let empty = rw c.in-End.is at c.in-Ok.ensures in filled_end c.loop-next.invariant empty
-
-pub loop-next-smaller-in-Gap : goal.loop-next-smaller-in-Gap
-loop-next-smaller-in-Gap c = let skips = rw c.in-Gap.is at c.in-Ok.ensures in skips_shorter skips
 
 pub loop-next-preserved-in-Gap : goal.loop-next-preserved-in-Gap
 loop-next-preserved-in-Gap c = let skips = rw c.in-Gap.is at c.in-Ok.ensures in filling_gap c.loop-next.invariant skips

@@ -3,7 +3,7 @@ use Rattle.std.proofs.lemmas.Result.{err_from_is_err_and}
 use Rattle.tokens.specs.Tokens.{tok}
 use Rattle.tokens.specs.Lexemes.{complete, Lexed, finished}
 use Rattle.tokens.specs.Scanning.{Leads}
-use Rattle.tokens.proofs.Total.{skips_shorter, leads_shorter}
+use Rattle.tokens.proofs.Total.{leads_shorter}
 use Rattle.tokens.proofs.Survey.{surveying_start, survey_done, surveying_gap, survey_goes_on, survey_refuses, survey_fails}
 use Rattle.tokens.proofs.lexer.survey.Goals as goal
 use Rattle.tokens.proofs.lexer.survey.Goals.{In-Token}
@@ -23,9 +23,6 @@ returns-in-End c =
     let none = subst (λ bs. Lexed place bs _ complete) (sym empty) finished in
     survey_done c.loop-after.invariant complete none c.counted.result c.counted.ensures
 
-pub loop-after-smaller-in-Gap : goal.loop-after-smaller-in-Gap
-loop-after-smaller-in-Gap c = let skips = rw c.in-Gap.is at c.in_ok-next_at.ensures in skips_shorter skips
-
 pub loop-after-preserved-in-Gap : goal.loop-after-preserved-in-Gap
 loop-after-preserved-in-Gap c =
     let skips = rw c.in-Gap.is at c.in_ok-next_at.ensures in surveying_gap c.loop-after.invariant skips
@@ -38,13 +35,6 @@ less c = leads_shorter (leads c)
 
 pub bounds-rest-0 : goal.bounds-rest-0
 bounds-rest-0 c = let h = less (goal.at.bounds-rest-0 c).In-Token in omega arith
-
-pub overflow_sub-source : goal.overflow_sub-source
-overflow_sub-source c = let h = less (goal.at.overflow_sub-source c).In-Token in omega (arith, c.loop-after.invariant.room)
-
-pub joined_to-requires : goal.joined_to-requires
-joined_to-requires c =
-    let h = less (goal.at.joined_to-requires c).In-Token in omega (arith, c.loop-after.invariant.room)
 
 pub returns-in_err-seen-in-Token : goal.returns-in_err-seen-in-Token
 returns-in_err-seen-in-Token c =
