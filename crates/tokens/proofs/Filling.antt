@@ -12,7 +12,7 @@ use Rattle.tokens.specs.Tokens.{Tok, tok}
 use Rattle.tokens.specs.Lexemes.{Lexeme, Ending, complete, unclosed, unexpected, Lexed, finished}
 use Rattle.refusal.specs.Faults.{refusal, or_else}
 use Rattle.tokens.specs.Reply.{too_large, fault, first_fault, start, TokensAfter}
-use Rattle.tokens.specs.Scanning.{Skips, Leads, Fails, over_limit, open_comment, no_text, Stands}
+use Rattle.tokens.specs.Scanning.{Skips, Leads, Fails, over_limit, open_comment, stray_byte, Stands}
 use Rattle.tokens.specs.Survey.{Faultless, Filled}
 use Rattle.tokens.proofs.Fronts.{clash}
 use Rattle.tokens.proofs.Total.{lexeme_of, after_gap, after_lexeme, skips_shorter, leads_shorter, total}
@@ -64,7 +64,7 @@ no_fault d small (over_limit {t = t} l large) =
     let (ms, is, d') = past_lexeme d l in
     both_ways (too_large t) (subst (AllByRecursion Small) is small).0 large
 no_fault {p} d small (open_comment ends) = clash (cc (no_other_ending d (unclosed p) ends).1)
-no_fault {p} d small (no_text ends) = clash (cc (no_other_ending d (unexpected p) ends).1)
+no_fault {p} d small (stray_byte ends) = clash (cc (no_other_ending d (unexpected p) ends).1)
 
 -- ---- one write
 

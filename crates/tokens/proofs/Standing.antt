@@ -1,15 +1,22 @@
 -- What stands at the front of some bytes.
 use Rattle.std.proofs.Common.{◌≡◌, ℕ, ◌<◌, true, false, List, [], ◌∷◌, ◌++◌, length, get_or, take, codes, Some, None, sym, refl, ap, ◌∙◌, subst, inl, inr, arith, Bor}
-use Rattle.std.specs.List.{prefix_len, AllByRecursion}
-use Rattle.tokens.specs.declared.bytes.Class.TheVariants.{Other}
+use Rattle.std.specs.List.{prefix_len, AllByRecursion, AllPass}
+use Rattle.std.proofs.lemmas.Bool.{lt-ltb, le-ltb}
+use Rattle.tokens.specs.Reply.{too_large}
+use Rattle.refusal.specs.declared.Reason.TheVariants.{NumberTooLarge, UnexpectedByte}
+use Rattle.refusal.specs.Faults.{refusal}
+use Rattle.tokens.specs.declared.bytes.Class.TheVariants.{Letter, Digit, Other}
 use Rattle.tokens.specs.declared.token.Mark.{Mark}
-use Rattle.tokens.specs.Tokens.{Tok, mark, number, name}
+use Rattle.tokens.specs.declared.token.Token.{Token}
+use Rattle.tokens.specs.declared.token.Token.TheVariants as code
+use Rattle.tokens.specs.Tokens.{Tok, tok, mark, number, name}
 use Rattle.tokens.specs.Lexemes.{letter, digit, white, spelling, decimal, Run, Spells, reserved, digits, letters, Front, Longest, blank, comment, Lexed, unclosed, unclosed_comment, unexpected, unexpected_byte}
-use Rattle.tokens.specs.Scanning.{class, rest, keywords, doubles, singles, Begins, Symbol, Skips, Leads}
+use Rattle.tokens.specs.Scanning.{class, rest, keywords, doubles, singles, limited, WordToken, Symbol, Skips, Leads, Fails, over_limit, stray_byte}
 use Rattle.tokens.proofs.Fronts.{one_front, two_front}
 use Rattle.tokens.proofs.Comments.{Ends, Unclosed}
 use Rattle.tokens.proofs.Reserved.{all_both, single_lengths}
-use Rattle.tokens.proofs.Texts.{class_not_white, is_run, word_longest, number_longest, no_mark, Absent, no_text, double_longest, single_longest}
+use Rattle.tokens.proofs.Numbers.{limited_some, limited_none}
+use Rattle.tokens.proofs.Texts.{class_letter, class_digit, class_not_white, is_run, word_longest, number_longest, no_mark, Absent, no_text, double_longest, single_longest}
 
 pub spelt_mark : (p : ℕ) (x : List ℕ) (m : Mark) → x ≡ spelling m → Spells p x (mark p m)
 spelt_mark p x m e = subst (λ y. Spells p y (mark p m)) (sym e) reserved
@@ -45,6 +52,38 @@ module _ (p : ℕ) (bs x r : List ℕ) (some : 0 < length bs) (whole : bs ≡ x 
       spells = subst (λ v. Spells p x (number p v)) (sym e) (digits all_digits);
       longest = subst (λ y. Longest p y bs) (sym run) (number_longest p bs starts);
     }
+
+module _ (p : ℕ) (bs x r : List ℕ) (some : 0 < length bs) (whole : bs ≡ x ++ r) where
+  module _ (starts : Letter ≡ class (get_or bs 0 0)) (run : x ≡ take (prefix_len letter bs) bs) where
+    first_letter : letter (get_or bs 0 0) ≡ true
+    first_letter = class_letter (get_or bs 0 0) (sym starts)
+
+    pub word_stands : (t : Token) → WordToken p x t → Leads p bs r (tok t) × (too_large (tok t) ≡ false)
+    word_stands (code.Mark q m) (place, spelt) =
+        (subst (λ n. Leads p bs r (mark n m)) (sym place) (keyword_leads p bs x r some whole first_letter run m spelt), refl)
+    word_stands (code.Name q v) (place, is, none) = (
+      subst (λ n. Leads p bs r (name n v.now)) (sym place)
+          (subst (λ y. Leads p bs r (name p y)) (sym is) (name_leads p bs x r some whole first_letter run none)),
+      refl,
+    )
+    word_stands (code.Number q n) impossible = absurd impossible
+
+  module _ (starts : Digit ≡ class (get_or bs 0 0)) (run : x ≡ take (prefix_len digit bs) bs) where
+    first_digit : digit (get_or bs 0 0) ≡ true
+    first_digit = class_digit (get_or bs 0 0) (sym starts)
+
+    pub number_digits : AllPass digit x
+    number_digits = (all_digits p bs x r some whole first_digit run).1
+
+    pub number_stands : (n : ℕ) → Some n ≡ limited (decimal x) → Leads p bs r (number p n) × (too_large (number p n) ≡ false)
+    number_stands n e =
+        let fits = limited_some (decimal x) n e in
+        (number_leads p bs x r some whole first_digit run n fits.1, le-ltb 2147483647 n (omega (arith, fits.0, fits.1)))
+
+    pub number_fails : None ≡ limited (decimal x) → Fails p bs (refusal NumberTooLarge p)
+    number_fails e =
+        over_limit (number_leads p bs x r some whole first_digit run (decimal x) refl)
+        (lt-ltb 2147483647 (decimal x) (limited_none (decimal x) e))
 
 -- ---- gaps
 
@@ -91,21 +130,21 @@ module _ (p : ℕ) (bs : List ℕ) (k : class (get_or bs 0 0) ≡ Other) where
         let none = subst (λ y. (x : List ℕ) (t : Tok) → Spells p x t → Front x y → ⊥) e (no_text p bs k two one) in
         subst (λ y. Lexed p y [] (unexpected p)) (sym e) (unexpected_byte w none)
 
-pub symbol_leads : (p : ℕ) (bs : List ℕ) → Begins Other bs → (Front (codes "/*") bs → ⊥) → (m : Mark) (r : Bor (List ℕ))
-    → Symbol bs (Some (m, r)) → Leads p bs r.now (mark p m)
-symbol_leads p bs k clear m r (inl (two, spelt, tail)) =
-    let a = get_or bs 0 0 in
-    let b = get_or bs 1 0 in
-    let whole : bs ≡ a ∷ b ∷ r.now = two_front bs two ∙ ap (λ x. a ∷ b ∷ x) (sym tail) in
-    double_leads p bs k.first clear (a ∷ b ∷ []) m spelt whole refl
-symbol_leads p bs k clear m r (inr (no_double, some, spelt, tail)) =
-    let a = get_or bs 0 0 in
-    let whole : bs ≡ a ∷ r.now = one_front bs some ∙ ap (λ x. a ∷ x) (sym tail) in
-    single_leads p bs k.first clear (a ∷ []) m spelt whole no_double refl
+module _ (p : ℕ) (bs : List ℕ) (some : 0 < length bs) (starts : Other ≡ class (get_or bs 0 0)) where
+  pub symbol_leads : (Front (codes "/*") bs → ⊥) → (m : Mark) (r : Bor (List ℕ)) → Symbol bs (Some (m, r)) → Leads p bs r.now (mark p m)
+  symbol_leads clear m r (inl (two, spelt, tail)) =
+      let a = get_or bs 0 0 in
+      let b = get_or bs 1 0 in
+      let whole : bs ≡ a ∷ b ∷ r.now = two_front bs two ∙ ap (λ x. a ∷ b ∷ x) (sym tail) in
+      double_leads p bs (sym starts) clear (a ∷ b ∷ []) m spelt whole refl
+  symbol_leads clear m r (inr (no_double, _, spelt, tail)) =
+      let a = get_or bs 0 0 in
+      let whole : bs ≡ a ∷ r.now = one_front bs some ∙ ap (λ x. a ∷ x) (sym tail) in
+      single_leads p bs (sym starts) clear (a ∷ []) m spelt whole no_double refl
 
-pub no_symbol : (p : ℕ) (bs : List ℕ) → Begins Other bs → Symbol bs None → Lexed p bs [] (unexpected p)
-no_symbol p bs k (no_double, no_single) =
-    let b = get_or bs 0 0 in
-    let whole = one_front bs k.some in
-    let one = no_singles p bs k.first b (rest 1 bs) whole (no_single k.some) in
-    no_token p bs k.first b (rest 1 bs) whole (class_not_white b k.first) no_double one
+  pub no_symbol : Symbol bs None → Fails p bs (refusal UnexpectedByte p)
+  no_symbol (no_double, no_single) =
+      let b = get_or bs 0 0 in
+      let whole = one_front bs some in
+      let one = no_singles p bs (sym starts) b (rest 1 bs) whole (no_single some) in
+      stray_byte (no_token p bs (sym starts) b (rest 1 bs) whole (class_not_white b (sym starts)) no_double one)

@@ -16,7 +16,7 @@ use Rattle.tokens.specs.Tokens.{Tok}
 use Rattle.tokens.specs.Lexemes.{letter, digit, white, Lexeme, Ending, unclosed, unexpected, Lexed}
 use Rattle.refusal.specs.Faults.{refusal, or_else, unless}
 use Rattle.tokens.specs.Reply.{too_large, unseparated, fault, ending_fault, first_fault, start, count_reply, lexeme_count}
-use Rattle.tokens.specs.Scanning.{class, Skips, Leads, Fails, over_limit, open_comment, no_text}
+use Rattle.tokens.specs.Scanning.{class, Skips, Leads, Fails, over_limit, open_comment, stray_byte}
 use Rattle.tokens.specs.Survey.{is_letter, is_digit, apart, joined, join, counted, Surveyed}
 use Rattle.tokens.proofs.Fronts.{clash}
 use Rattle.tokens.proofs.Texts.{letter_class, digit_class, some_bytes, first_byte}
@@ -276,4 +276,4 @@ module _ {source rest : List ℕ} {seen : Seen} (v : Surveying source rest seen)
   pub survey_fails : (f : Refusal) → Fails place rest f → Surveyed source (Err f)
   survey_fails _ (over_limit l big) = stops_large l big
   survey_fails f (open_comment d) = survey_done (unclosed place) d (Err f) refl
-  survey_fails f (no_text d) = survey_done (unexpected place) d (Err f) refl
+  survey_fails f (stray_byte d) = survey_done (unexpected place) d (Err f) refl

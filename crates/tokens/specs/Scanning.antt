@@ -10,6 +10,8 @@ use Rattle.tokens.specs.declared.bytes.Class.TheVariants.{Letter, Digit, White, 
 use Rattle.tokens.specs.declared.scan.Next.{Next}
 use Rattle.tokens.specs.declared.scan.Next.TheVariants as next
 use Rattle.tokens.specs.declared.token.Mark.{Mark}
+use Rattle.tokens.specs.declared.token.Token.{Token}
+use Rattle.tokens.specs.declared.token.Token.TheVariants as code
 use Rattle.tokens.specs.declared.token.Mark.TheVariants.{Else, If, Int, Return, Void, While, Plus, Minus, Star, Slash, Less, LessEqual, Greater, GreaterEqual, Equal, NotEqual, Assign, Semicolon, Comma, LeftParen, RightParen, LeftBracket, RightBracket, LeftBrace, RightBrace}
 use Rattle.tokens.specs.Tokens.{Tok, tok}
 use Rattle.tokens.specs.Lexemes.{letter, digit, white, spelling, Spells, Front, Longest, Closed, Body, Gap, Lexed, unclosed, unexpected}
@@ -23,11 +25,6 @@ class b = if letter b then Letter else if digit b then Digit else if white b the
 -- the bytes from the nth on, as a slice pattern has them
 abbrev pub rest : ℕ → List ℕ → List ℕ
 rest n bs = take (length bs - n) (drop n bs)
-
--- bs begins with a byte of this class
-pub record Begins (k : Class) (bs : List ℕ) : Type 0 where
-  pub some : 0 < length bs
-  pub first : class (slice_index bs 0) ≡ k
 
 -- no closing mark stands at i
 abbrev pub NotClosing : List ℕ → ℕ → Type 0
@@ -74,6 +71,12 @@ abbrev pub Double : List ℕ → Option (Mark × Bor (List ℕ)) → Type 0
 Double bs (Some s) = (1 < length bs) × (slice_index bs 0 ∷ slice_index bs 1 ∷ [] ≡ spelling s.0) × (s.1.now ≡ rest 2 bs)
 Double bs None = AllByRecursion (λ m. Front (spelling m) bs → ⊥) doubles
 
+-- the token of the word x at p: a keyword, or a name
+abbrev pub WordToken : ℕ → List ℕ → Token → Type 0
+WordToken p x (code.Mark q m) = (q ≡ p) × Spelt keywords x (Some m)
+WordToken p x (code.Name q v) = (q ≡ p) × (v.now ≡ x) × Spelt keywords x None
+WordToken p x (code.Number q n) = ⊥
+
 -- the symbol at the front, the longer one where there are two, and the bytes after it
 abbrev pub Symbol : List ℕ → Option (Mark × Bor (List ℕ)) → Type 0
 Symbol bs (Some s) =
@@ -100,7 +103,7 @@ pub record Leads (p : ℕ) (bs r : List ℕ) (t : Tok) : Type 0 where
 pub data Fails (p : ℕ) (bs : List ℕ) : Refusal → Type 0 where
   over_limit : {r : List ℕ} {t : Tok} → Leads p bs r t → too_large t ≡ true → Fails p bs (refusal NumberTooLarge p)
   open_comment : Lexed p bs [] (unclosed p) → Fails p bs (refusal UnclosedComment p)
-  no_text : Lexed p bs [] (unexpected p) → Fails p bs (refusal UnexpectedByte p)
+  stray_byte : Lexed p bs [] (unexpected p) → Fails p bs (refusal UnexpectedByte p)
 
 -- what bs, which stands at p, begins with
 abbrev pub Stands : ℕ → List ℕ → Result Next Refusal → Type 0

@@ -1,7 +1,7 @@
-ghost use Rattle.std.specs.Prelude.{◌≡◌, ◌+◌, ◌-◌, ◌*◌, ◌≤◌, true, Ok, codes};
+ghost use Rattle.std.specs.Prelude.{◌≡◌, ◌+◌, ◌-◌, ◌*◌, ◌≤◌};
 ghost use Rattle.std.specs.List.{AllPass};
-ghost use Rattle.tokens.specs.Lexemes.{digit, decimal, Front};
-ghost use Rattle.tokens.specs.Scanning.{limited, Begins, Stands};
+ghost use Rattle.tokens.specs.Lexemes.{digit, decimal};
+ghost use Rattle.tokens.specs.Scanning.{limited, WordToken, Stands};
 
 use crate::bytes::{Class, after_comment, class_of, leading_digits, leading_letters};
 use crate::marks::{keyword_of, symbol};
@@ -18,14 +18,13 @@ pub enum Next<'a> {
     Token(Token<'a>, &'a [u8]),
 }
 
-fn word_at<'a>(place: usize, s: &'a [u8]) -> Next<'a>
-    requires { Begins Class.Letter s.now }
-    ensures { Stands place s.now (Ok result) }
+// A word is a keyword or a name.
+fn word_token<'a>(place: usize, word: &'a [u8]) -> Token<'a>
+    ensures { WordToken place word.now result }
 {
-    let (word, rest) = s.split_at(leading_letters(s));
     match keyword_of(word) {
-        Some(mark) => Next::Token(Token::Mark(place, mark), rest),
-        None => Next::Token(Token::Name(place, word), rest),
+        Some(mark) => Token::Mark(place, mark),
+        None => Token::Name(place, word),
     }
 }
 
@@ -53,24 +52,6 @@ fn value_of(digits: &[u8]) -> Option<u32>
     Some(value)
 }
 
-fn number_at<'a>(place: usize, s: &'a [u8]) -> Result<Next<'a>, Refusal>
-    requires { Begins Class.Digit s.now }
-    ensures { Stands place s.now result }
-{
-    let (digits, rest) = s.split_at(leading_digits(s));
-    let value = value_of(digits).ok_or(Reason::NumberTooLarge.at(place))?;
-    Ok(Next::Token(Token::Number(place, value), rest))
-}
-
-fn symbol_at<'a>(place: usize, s: &'a [u8]) -> Result<Next<'a>, Refusal>
-    requires other_first { Begins Class.Other s.now }
-    requires no_comment { Front (codes "/*") s.now → ⊥ }
-    ensures { Stands place s.now result }
-{
-    let (mark, rest) = symbol(s).ok_or(Reason::UnexpectedByte.at(place))?;
-    Ok(Next::Token(Token::Mark(place, mark), rest))
-}
-
 pub fn next_at<'a>(place: usize, s: &'a [u8]) -> Result<Next<'a>, Refusal>
     ensures { Stands place s.now result }
 {
@@ -78,13 +59,23 @@ pub fn next_at<'a>(place: usize, s: &'a [u8]) -> Result<Next<'a>, Refusal>
         let rest = after_comment(body).ok_or(Reason::UnclosedComment.at(place))?;
         return Ok(Next::Gap(rest));
     }
-    let [first, rest @ ..] = s else {
+    let [first, behind @ ..] = s else {
         return Ok(Next::End);
     };
     match class_of(*first) {
-        Class::Letter => Ok(word_at(place, s)),
-        Class::Digit => number_at(place, s),
-        Class::White => Ok(Next::Gap(rest)),
-        Class::Other => symbol_at(place, s),
+        Class::White => Ok(Next::Gap(behind)),
+        Class::Letter => {
+            let (word, rest) = s.split_at(leading_letters(s));
+            Ok(Next::Token(word_token(place, word), rest))
+        }
+        Class::Digit => {
+            let (digits, rest) = s.split_at(leading_digits(s));
+            let value = value_of(digits).ok_or(Reason::NumberTooLarge.at(place))?;
+            Ok(Next::Token(Token::Number(place, value), rest))
+        }
+        Class::Other => {
+            let (mark, rest) = symbol(s).ok_or(Reason::UnexpectedByte.at(place))?;
+            Ok(Next::Token(Token::Mark(place, mark), rest))
+        }
     }
 }
