@@ -1,6 +1,5 @@
 -- Nodes that are added leave the trees of the nodes before them.
-use Rattle.std.proofs.Common.{◌≡◌, ℕ, zero, suc, ◌+◌, ◌-◌, ◌<◌, ◌≤◌, ◌≢◌, List, length, set, sym, refl, ap, ◌∙◌, subst, ⊎_elim, arith, get_or-set_same, get_or-set_other}
-use native.Mathlib.Nat.{eq-or-lt_of_le}
+use Rattle.std.proofs.Common.{◌≡◌, ℕ, zero, suc, ◌+◌, ◌-◌, ◌<◌, ◌≤◌, ◌≢◌, List, length, set, sym, refl, ap, ◌∙◌, subst, ⊎_elim, eq-or-lt_of_le, arith, get_or-set_same, get_or-set_other}
 use Rattle.syntax.specs.declared.node.Node.{Node}
 use Rattle.syntax.specs.declared.node.Node.TheVariants.{Nothing, Literal, Variable, Element, Paren, Binary, Assign, AssignElement, Call, Argument, Empty, Expression, Compound, If, IfElse, While, Return, ReturnValue, Statement, Block, NumberLocal, ArrayLocal, NumberParam, ArrayParam, NumberGlobal, ArrayGlobal, Function}
 use Rattle.syntax.specs.Nodes.{Tree, decode, Below, at, tree_within, tree_at, Down, Kept}

@@ -1,6 +1,6 @@
 -- Where a comment ends.
 use Rattle.std.proofs.Common.{◌≡◌, ℕ, zero, suc, ◌+◌, ◌≤◌, ◌⊎◌, List, [], ◌∷◌, ◌++◌, length, get_or, drop, codes, Some, None, sym, refl, ap, ◌∙◌, subst, inl, inr, append_assoc, add-one, arith, length-append}
-use native.Mathlib.Numerals.{unary_clauses}
+use Rattle.std.proofs.Math.Numerals.{unary_clauses}
 use Rattle.tokens.specs.Lexemes.{Front, Closed, Body}
 use Rattle.tokens.specs.Scanning.{NotClosing, FirstClosing}
 use Rattle.tokens.proofs.Fronts.{clash, front?}

@@ -1,6 +1,6 @@
 -- The pass that writes the tokens of a source without fault.
 use Rattle.std.proofs.Common.{◌≡◌, ℕ, ◌+◌, ◌-◌, ◌<◌, ◌≤◌, false, List, [], ◌∷◌, ◌++◌, map, length, take, drop, set, Some, None, Ok, Err, Option, Result, sym, refl, ap, ◌∙◌, subst, inl, inr, append_assoc, append-nil, arith, length-set}
-use native.Mathlib.Nat.{sub_self}
+use Rattle.std.proofs.Math.Nat.{sub_self}
 use Rattle.std.specs.List.{AllByRecursion}
 use Rattle.std.proofs.lemmas.List.{drop-drop, drop-set-lt, take_more_set, map_push, length_push}
 use Rattle.std.proofs.lemmas.Bool.{cases_Bool, cond-true, both_ways}

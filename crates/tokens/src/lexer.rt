@@ -87,7 +87,7 @@ fn survey(source: &[u8]) -> Result<usize, Refusal>
     }
 }
 
-// Writes the tokens of a source without fault.
+// Writes the tokens of a source without fault. They are counted by hand: gaps stand between them, and fill no element.
 fn fill<'a>(source: &'a [u8], tokens: &mut [Token<'a>; MAX_TOKENS])
     requires { Faultless source.now }
     ensures { Filled source.now tokens.old tokens.new }
