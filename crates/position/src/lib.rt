@@ -1,7 +1,7 @@
 #![tactic(auto)]
 
-ghost use Rattle.std.specs.Prelude.{min, length};
-ghost use Rattle.position.specs.Lines.{Before, After, Stands};
+ghost use Rattle.std.specs.Prelude.{◌≡◌, min, length};
+ghost use Rattle.position.specs.Lines.{line_ends, Before, After, Stands};
 
 // Where a byte of a text stands for a reader: its line and column, counted from 1, and where its line begins and ends.
 #[derive(Clone, Copy, PartialEq, Eq, Debug)]
@@ -10,6 +10,12 @@ pub struct Position {
     pub column: usize,
     pub start: usize,
     pub end: usize,
+}
+
+fn newlines(text: &[u8]) -> usize
+    ensures { result ≡ line_ends text.now }
+{
+    text.iter().filter(|&&b| b == b'\n').count()
 }
 
 // Where the last line of a text begins.
@@ -33,7 +39,7 @@ pub fn locate(text: &[u8], place: usize) -> Position
     let (front, rest) = text.split_at(place.min(text.len()));
     let start = last_start(front);
     Position {
-        line: 1 + front.iter().filter(|&&b| b == b'\n').count(),
+        line: 1 + newlines(front),
         column: front.len() - start + 1,
         start,
         end: front.len() + first_end(rest),
