@@ -12,16 +12,6 @@ pub const MAX_BYTES: usize = 16384;
 
 pub const MAX_TOKENS: usize = 2048;
 
-// What is kept of the lexemes so far: their number, the end of the last one and the class of its first byte,
-// and the place of the first one too many, if there is one.
-#[derive(Clone, Copy)]
-struct Seen {
-    count: usize,
-    end: usize,
-    class: Class,
-    surplus: Option<usize>,
-}
-
 // Whether one of two classes is that of a word and the other that of a number.
 fn are_apart(a: Class, b: Class) -> bool
     ensures { result ≡ apart a b }
@@ -32,33 +22,45 @@ fn are_apart(a: Class, b: Class) -> bool
     )
 }
 
-// What is kept after one more lexeme, unless a separator is missing before it.
-fn joined_to(seen: Seen, place: usize, class: Class, end: usize) -> Result<Seen, Refusal>
-    requires { seen.count + 1 < 2 ^ 64 }
-    ensures { result ≡ join seen place class end }
-{
-    if seen.end == place && are_apart(seen.class, class) {
-        return Err(Reason::MissingSeparator.at(place));
-    }
-    let surplus = if seen.count == MAX_TOKENS {
-        Some(place)
-    } else {
-        seen.surplus
-    };
-    Ok(Seen {
-        count: seen.count + 1,
-        end,
-        class,
-        surplus,
-    })
+// What is kept of the lexemes so far: their number, the end of the last one and the class of its first byte,
+// and the place of the first one too many, if there is one.
+#[derive(Clone, Copy)]
+struct Seen {
+    count: usize,
+    end: usize,
+    class: Class,
+    surplus: Option<usize>,
 }
 
-fn counted(seen: Seen) -> Result<usize, Refusal>
-    ensures { result ≡ counted seen }
-{
-    match seen.surplus {
-        Some(place) => Err(Reason::TooManyTokens.at(place)),
-        None => Ok(seen.count),
+impl Seen {
+    // What is kept after one more lexeme, unless a separator is missing before it.
+    fn joined_to(self, place: usize, class: Class, end: usize) -> Result<Seen, Refusal>
+        requires { self.count + 1 < 2 ^ 64 }
+        ensures { result ≡ join self place class end }
+    {
+        if self.end == place && are_apart(self.class, class) {
+            return Err(Reason::MissingSeparator.at(place));
+        }
+        let surplus = if self.count == MAX_TOKENS {
+            Some(place)
+        } else {
+            self.surplus
+        };
+        Ok(Seen {
+            count: self.count + 1,
+            end,
+            class,
+            surplus,
+        })
+    }
+
+    fn counted(self) -> Result<usize, Refusal>
+        ensures { result ≡ counted self }
+    {
+        match self.surplus {
+            Some(place) => Err(Reason::TooManyTokens.at(place)),
+            None => Ok(self.count),
+        }
     }
 }
 
@@ -76,11 +78,11 @@ fn survey(source: &[u8]) -> Result<usize, Refusal>
     loop {
         let place = source.len() - rest.len();
         match next_at(place, rest)? {
-            Next::End => return counted(seen),
+            Next::End => return seen.counted(),
             Next::Gap(after) => rest = after,
             Next::Token(_, after) => {
                 let class = class_of(rest[0]);
-                seen = joined_to(seen, place, class, source.len() - after.len())?;
+                seen = seen.joined_to(place, class, source.len() - after.len())?;
                 rest = after;
             }
         }
