@@ -1,25 +1,25 @@
 -- The pass that counts the lexemes of a source and finds its first fault.
-use Rattle.std.proofs.Common.{◌≡◌, ℕ, zero, suc, ◌+◌, ◌-◌, ◌≤◌, Bool, true, false, cond, ◌&&◌, ◌||◌, eqb, List, [], ◌∷◌, ◌++◌, map, length, get_or, Some, None, Ok, Err, Result, sym, refl, ap, ◌∙◌, subst, inl, inr, append_assoc, append-nil, arith, length-append}
+use Rattle.std.proofs.Common.{◌≡◌, ℕ, zero, suc, ◌+◌, ◌-◌, ◌≤◌, Bool, true, false, cond, ◌&&◌, ◌||◌, eqb, List, [], ◌∷◌, ◌++◌, map, length, get_or, Some, None, Ok, Err, Result, sym, refl, ap, ◌∙◌, subst, append_assoc, append-nil, arith, length-append}
 use Rattle.std.specs.Prelude.{◌==◌, if◌then◌else◌, option_map, slice_get, slice_index}
 use Rattle.std.proofs.Math.Nat.{sub_self}
 use Rattle.std.proofs.lemmas.List.{map_push, length_push, length-map}
 use Rattle.std.proofs.lemmas.Bool.Decides.{nat_tests}
 use Rattle.std.proofs.lemmas.Option.{gets}
 use Rattle.std.proofs.lemmas.Grind.{common_steps}
-use Rattle.std.proofs.lemmas.Bool.{true≢false, cases_Bool, cond-true, cond-false}
+use Rattle.std.proofs.lemmas.Bool.{cases_Bool, cond-true, cond-false}
 use Rattle.refusal.specs.declared.Refusal.{Refusal}
 use Rattle.refusal.specs.declared.Reason.TheVariants.{NumberTooLarge, MissingSeparator, TooManyTokens}
 use Rattle.tokens.specs.declared.bytes.Class.{Class}
-use Rattle.tokens.specs.declared.bytes.Class.TheVariants.{Letter, Digit, White, Other}
+use Rattle.tokens.specs.declared.bytes.Class.TheVariants.{Other}
 use Rattle.tokens.specs.declared.lexer.Seen.{Seen}
 use Rattle.tokens.specs.Tokens.{Tok}
-use Rattle.tokens.specs.Lexemes.{letter, digit, white, Lexeme, Ending, unclosed, unexpected, Lexed}
+use Rattle.tokens.specs.Lexemes.{letter, digit, Lexeme, Ending, unclosed, unexpected, Lexed}
 use Rattle.refusal.specs.Faults.{refusal, or_else, unless}
 use Rattle.tokens.specs.Reply.{too_large, unseparated, fault, ending_fault, first_fault, start, count_reply, lexeme_count}
 use Rattle.tokens.specs.Scanning.{class, Skips, Leads, Fails, over_limit, open_comment, stray_byte}
-use Rattle.tokens.specs.Survey.{is_letter, is_digit, apart, joined, join, counted, Surveyed}
+use Rattle.tokens.specs.Survey.{apart, joined, join, counted, Surveyed}
 use Rattle.tokens.proofs.Fronts.{clash}
-use Rattle.tokens.proofs.Texts.{letter_class, digit_class, some_bytes, first_byte}
+use Rattle.tokens.proofs.Texts.{some_bytes, first_byte}
 use Rattle.tokens.proofs.Total.{lexeme_of, after_gap, after_lexeme, skips_shorter, leads_shorter, total}
 
 -- ---- the lexemes before a place
@@ -74,39 +74,8 @@ module _ {source rest : List ℕ} {p : ℕ} {done : List Lexeme} {last : Lexeme}
 
 -- ---- a word and a number that touch
 
-or_none : (x : Bool) → x ≡ (x || false)
-or_none true = refl
-or_none false = refl
-
-by_tests : (l d w : Bool) (k : Class) → (l ≡ true → d ≡ false)
-    → apart (cond l Letter (cond d Digit (cond w White Other))) k ≡ ((d && is_letter k) || (l && is_digit k))
-by_tests true true w k one = absurd (true≢false (one refl))
-by_tests true false w k one = refl
-by_tests false true w k one = or_none (is_letter k)
-by_tests false false true k one = refl
-by_tests false false false k one = refl
-
-letter_test : (l d w : Bool) → is_letter (cond l Letter (cond d Digit (cond w White Other))) ≡ l
-letter_test true d w = refl
-letter_test false true w = refl
-letter_test false false true = refl
-letter_test false false false = refl
-
-digit_test : (l d w : Bool) → (l ≡ true → d ≡ false) → is_digit (cond l Letter (cond d Digit (cond w White Other))) ≡ d
-digit_test true d w one = sym (one refl)
-digit_test false true w one = refl
-digit_test false false true one = refl
-digit_test false false false one = refl
-
-one_class : (b : ℕ) → letter b ≡ true → digit b ≡ false
-one_class b e =
-    elim (cases_Bool (digit b)) [ inl d ↦ absurd (clash (cc (letter_class b e, digit_class b d))) | inr none ↦ none ]
-
 apart_is : (a b : ℕ) → apart (class a) (class b) ≡ ((digit a && letter b) || (letter a && digit b))
-apart_is a b =
-    by_tests (letter a) (digit a) (white a) (class b) (one_class a)
-    ∙ ap (λ z. (digit a && z) || (letter a && is_digit (class b))) (letter_test (letter b) (digit b) (white b))
-    ∙ ap (λ z. (digit a && letter b) || (letter a && z)) (digit_test (letter b) (digit b) (white b) (one_class b))
+apart_is a b = grind (arith, nat_tests, cases_Bool)
 
 -- ---- what the pass keeps of the lexemes
 
