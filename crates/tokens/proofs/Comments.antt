@@ -3,7 +3,7 @@ use Rattle.std.proofs.Common.{◌≡◌, ℕ, zero, suc, ◌+◌, ◌≤◌, ◌
 use Rattle.std.proofs.Math.Numerals.{unary_clauses}
 use Rattle.tokens.specs.Lexemes.{Front, Closed, Body}
 use Rattle.tokens.specs.Scanning.{NotClosing, FirstClosing}
-use Rattle.tokens.proofs.Fronts.{clash, front?}
+use Rattle.tokens.proofs.Fronts.{front?}
 
 -- the first closing mark of bs stands right before r
 abbrev pub Ends : List ℕ → List ℕ → Type 0
@@ -16,14 +16,14 @@ pub long_enough : (x : List ℕ) → Closed x → (n : ℕ) × (length x ≡ n +
 long_enough x c = (length c.0, ap length c.1 ∙ length-append c.0 (codes "*/"))
 
 none_closed : Closed [] → ⊥
-none_closed c = let n = long_enough [] c in clash (omega (arith, n.1))
+none_closed c = let n = long_enough [] c in omega (arith, n.1)
 
 mark_first : (y v : List ℕ) → codes "*/" ≡ y ++ v → Closed y → v ≡ []
 mark_first y [] e c = refl
 mark_first y (b ∷ v) e c =
     let n = long_enough y c in
     let m = ap length e ∙ length-append y (b ∷ v) in
-    absurd (clash (omega (arith, n.1, m)))
+    absurd (omega (arith, n.1, m))
 
 pub mark_body : Body (codes "*/")
 mark_body = record { closed = ([], refl); first = mark_first }
@@ -59,7 +59,7 @@ module _ (a : ℕ) (t : List ℕ) (no_mark : Front (codes "*/") (a ∷ t) → �
 
 pub unclosed_none : Unclosed []
 unclosed_none [] f c = none_closed c
-unclosed_none (b ∷ x) f c = clash (let z = ap length f.1 in omega arith)
+unclosed_none (b ∷ x) f c = let z = ap length f.1 in omega arith
 
 pub comment_end : (bs : List ℕ) → ((r : List ℕ) × Ends bs r) ⊎ Unclosed bs
 comment_end [] = inr unclosed_none

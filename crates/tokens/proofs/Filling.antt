@@ -14,7 +14,6 @@ use Rattle.refusal.specs.Faults.{refusal, or_else}
 use Rattle.tokens.specs.Reply.{too_large, fault, first_fault, start, TokensAfter}
 use Rattle.tokens.specs.Scanning.{Skips, Leads, Fails, over_limit, open_comment, stray_byte, Stands}
 use Rattle.tokens.specs.Survey.{Faultless, Filled}
-use Rattle.tokens.proofs.Fronts.{clash}
 use Rattle.tokens.proofs.Total.{lexeme_of, after_gap, after_lexeme, skips_shorter, leads_shorter, total}
 use Rattle.tokens.proofs.Unique.{unique}
 use Rattle.tokens.proofs.Survey.{later}
@@ -47,7 +46,7 @@ Small l = too_large l.token ≡ false
 
 pub later_clean : (f g : Option Refusal) → or_else f g ≡ None → g ≡ None
 later_clean None g e = e
-later_clean (Some f) g e = absurd (clash (cc))
+later_clean (Some f) g e = cc
 
 small_numbers : (last : Lexeme) (ls : List Lexeme) (e : Ending) → first_fault last ls e ≡ None → AllByRecursion Small ls
 small_numbers last [] e clean = tt
@@ -55,7 +54,7 @@ small_numbers last (l ∷ ls) e clean =
     elim (cases_Bool (too_large l.token)) [
       | inl large ↦
           let found : fault last l ≡ Some (refusal NumberTooLarge l.place) = cond-true _ _ _ large in
-          absurd (clash (cc (clean, ap (λ f. or_else f (first_fault l ls e)) found)))
+          cc (clean, ap (λ f. or_else f (first_fault l ls e)) found)
       | inr small ↦ (small, small_numbers l ls e (later_clean (fault last l) (first_fault l ls e) clean))
     ]
 
@@ -63,8 +62,8 @@ no_fault : {p : ℕ} {bs : List ℕ} {ls : List Lexeme} {f : Refusal} → Lexed 
 no_fault d small (over_limit {t = t} l large) =
     let (ms, is, d') = past_lexeme d l in
     both_ways (too_large t) (subst (AllByRecursion Small) is small).0 large
-no_fault {p} d small (open_comment ends) = clash (cc (no_other_ending d (unclosed p) ends).1)
-no_fault {p} d small (stray_byte ends) = clash (cc (no_other_ending d (unexpected p) ends).1)
+no_fault {p} d small (open_comment ends) = cc (no_other_ending d (unclosed p) ends).1
+no_fault {p} d small (stray_byte ends) = cc (no_other_ending d (unexpected p) ends).1
 
 -- ---- one write
 

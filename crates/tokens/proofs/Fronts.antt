@@ -6,12 +6,9 @@ use Rattle.std.proofs.lemmas.Bool.{cases_eq}
 use Rattle.tokens.specs.Lexemes.{Front}
 use Rattle.tokens.specs.Scanning.{rest}
 
-pub clash : ◌≡◌ {A = ℕ} 0 1 → ⊥
-clash e = omega arith
-
 pub front? : (x bs : List ℕ) → Front x bs ⊎ (Front x bs → ⊥)
 front? [] bs = inl (bs, refl)
-front? (a ∷ x) [] = inr (λ f. clash (let n = ap length f.1 in omega arith))
+front? (a ∷ x) [] = inr (λ f. let n = ap length f.1 in omega arith)
 front? (a ∷ x) (b ∷ bs) =
     elim (cases_eq b a) [
       | inl e ↦ elim (front? x bs) [ inl f ↦ inl (f.0, cc f.1) | inr no_front ↦ inr (λ f. no_front (f.0, cc f.1)) ]

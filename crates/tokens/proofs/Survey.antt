@@ -18,7 +18,6 @@ use Rattle.refusal.specs.Faults.{refusal, or_else, unless}
 use Rattle.tokens.specs.Reply.{too_large, unseparated, fault, ending_fault, first_fault, start, count_reply, lexeme_count}
 use Rattle.tokens.specs.Scanning.{class, Skips, Leads, Fails, over_limit, open_comment, stray_byte}
 use Rattle.tokens.specs.Survey.{apart, joined, join, counted, Surveyed}
-use Rattle.tokens.proofs.Fronts.{clash}
 use Rattle.tokens.proofs.Texts.{some_bytes, first_byte}
 use Rattle.tokens.proofs.Total.{lexeme_of, after_gap, after_lexeme, skips_shorter, leads_shorter, total}
 
@@ -157,12 +156,12 @@ pub later : (source : List ℕ) {rest : List ℕ} (x r : List ℕ) → rest ≡ 
 later source x r whole h = let n = ap length whole ∙ length-append x r in omega arith
 
 ok_cond : {A E : Type 0} (b : Bool) (f : E) (x y : A) → Ok x ≡ cond b (Err f) (Ok y) → (b ≡ false) × (x ≡ y)
-ok_cond true f x y e = absurd (clash (cc))
+ok_cond true f x y e = cc
 ok_cond false f x y e = (refl, cc)
 
 err_cond : {A E : Type 0} (b : Bool) (f g : E) (y : A) → Err g ≡ cond b (Err f) (Ok y) → (b ≡ true) × (g ≡ f)
 err_cond true f g y e = (refl, cc)
-err_cond false f g y e = absurd (clash (cc))
+err_cond false f g y e = cc
 
 module _ {source rest : List ℕ} {seen : Seen} (v : Surveying source rest seen) where
   abbrev place : ℕ

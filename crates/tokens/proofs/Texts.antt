@@ -12,7 +12,6 @@ use Rattle.tokens.specs.declared.token.Mark.{Mark}
 use Rattle.tokens.specs.Tokens.{Tok}
 use Rattle.tokens.specs.Lexemes.{letter, digit, white, spelling, Run, Spells, reserved, digits, letters, Front, Longest}
 use Rattle.tokens.specs.Scanning.{class, keywords, doubles, singles}
-use Rattle.tokens.proofs.Fronts.{clash}
 use Rattle.tokens.proofs.Reserved.{weaker, every, all_both, first, keyword_runs, double_firsts, single_firsts, double_lengths, single_lengths}
 
 -- ---- classes
@@ -135,12 +134,12 @@ module _ (p : ℕ) (bs : List ℕ) where
   pub word_longest : letter (get_or bs 0 0) ≡ true → Longest p (run letter p bs) bs
   word_longest e =
       let k = letter_class (get_or bs 0 0) e in
-      run_longest letter p bs (no_comment p bs Letter k (λ c. clash (cc))) (at_front p bs Letter k)
+      run_longest letter p bs (no_comment p bs Letter k (λ c. cc)) (at_front p bs Letter k)
 
   pub number_longest : digit (get_or bs 0 0) ≡ true → Longest p (run digit p bs) bs
   number_longest e =
       let k = digit_class (get_or bs 0 0) e in
-      run_longest digit p bs (no_comment p bs Digit k (λ c. clash (cc))) (at_front p bs Digit k)
+      run_longest digit p bs (no_comment p bs Digit k (λ c. cc)) (at_front p bs Digit k)
 
 pub word_first : (x : List ℕ) → Run letter x → class (get_or x 0 0) ≡ Letter
 word_first [] run = absurd (omega (arith, run.0))
@@ -150,7 +149,7 @@ word_first (b ∷ x) run = letter_class b (run.1 0 0 (omega arith))
 pub no_mark : (x : List ℕ) → Run letter x → AllByRecursion (λ m. x ≡ spelling m → ⊥) keywords → (m : Mark) → x ≡ spelling m → ⊥
 no_mark x run none =
     let apart : (m : Mark) → class (first m) ≡ Other → x ≡ spelling m → ⊥ =
-    λ m o e. clash (cc (word_first x run, ap (λ y. class (get_or y 0 0)) e)) in
+    λ m o e. cc (word_first x run, ap (λ y. class (get_or y 0 0)) e) in
     let differs : Mark → Type 0 = λ m. x ≡ spelling m → ⊥ in
     every differs none
     (weaker apart doubles double_firsts)
@@ -173,7 +172,7 @@ short_if_absent n bs = weaker (λ m none f. absurd (none f))
 
 module _ (p : ℕ) (bs : List ℕ) (k : class (get_or bs 0 0) ≡ Other) where
   no_word : (m : Mark) → Run letter (spelling m) → Absent bs m
-  no_word m run f = clash (cc (k, word_first (spelling m) run, ap class (first_byte bs (spelling m) run.0 f)))
+  no_word m run f = cc (k, word_first (spelling m) run, ap class (first_byte bs (spelling m) run.0 f))
 
   short : (n : ℕ) → AllByRecursion (Short n bs) doubles → AllByRecursion (Short n bs) singles
       → (y : List ℕ) (t : Tok) → Spells p y t → Front y bs → length y ≤ n
@@ -188,7 +187,7 @@ module _ (p : ℕ) (bs : List ℕ) (k : class (get_or bs 0 0) ≡ Other) where
   no_text two one y t s f =
       let none = short 0 (short_if_absent 0 bs doubles two) (short_if_absent 0 bs singles one) y t s f in
       let some = some_bytes s in
-      clash (omega arith)
+      omega arith
 
   module _ (clear : Front (codes "/*") bs → ⊥) where
     pub double_longest : (m : Mark) → length (spelling m) ≡ 2 → Longest p (spelling m) bs
