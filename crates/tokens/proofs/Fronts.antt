@@ -1,10 +1,7 @@
 -- What some bytes begin with.
-use Rattle.std.proofs.Common.{◌≡◌, ℕ, ◌<◌, ◌⊎◌, List, [], ◌∷◌, ◌++◌, length, get_or, sym, refl, ap, inl, inr, arith}
-use Rattle.std.proofs.lemmas.List.{take_rest}
-use Rattle.std.proofs.lemmas.Slice.{first_rest}
+use Rattle.std.proofs.Common.{◌≡◌, ℕ, ◌⊎◌, List, [], ◌∷◌, ◌++◌, length, sym, refl, ap, inl, inr, arith}
 use Rattle.std.proofs.lemmas.Bool.{cases_eq}
 use Rattle.tokens.specs.Lexemes.{Front}
-use Rattle.tokens.specs.Scanning.{rest}
 
 pub front? : (x bs : List ℕ) → Front x bs ⊎ (Front x bs → ⊥)
 front? [] bs = inl (bs, refl)
@@ -27,12 +24,3 @@ compared (a ∷ x) r (b ∷ y) v e =
     let tails : x ++ r ≡ y ++ v = cc in
     let heads : a ≡ b = cc in
     elim (compared x r y v tails) [ longer w p q ↦ longer w (cc) q | shorter w p q ↦ shorter w (cc) q ]
-
--- the first two bytes, and the rest as a slice pattern has it
-pub two_front : (bs : List ℕ) → 1 < length bs → bs ≡ get_or bs 0 0 ∷ get_or bs 1 0 ∷ rest 2 bs
-two_front [] h = absurd (omega arith)
-two_front (a ∷ []) h = absurd (omega arith)
-two_front (a ∷ b ∷ bs) h = ap (λ x. a ∷ b ∷ x) (sym (take_rest (a ∷ b ∷ bs) 2))
-
-pub one_front : (bs : List ℕ) → 0 < length bs → bs ≡ get_or bs 0 0 ∷ rest 1 bs
-one_front bs h = first_rest bs 0 h

@@ -11,10 +11,9 @@ use Rattle.tokens.specs.declared.token.Token.{Token}
 use Rattle.tokens.specs.declared.token.Token.TheVariants as code
 use Rattle.tokens.specs.Tokens.{Tok, tok, mark, number, name}
 use Rattle.tokens.specs.Lexemes.{letter, digit, white, spelling, decimal, Run, Spells, reserved, digits, letters, Front, Longest, blank, comment, Lexed, unclosed, unclosed_comment, unexpected, unexpected_byte}
-use Rattle.tokens.specs.Scanning.{class, rest, keywords, doubles, singles, limited, WordToken, Symbol, Skips, Leads, Fails, over_limit, stray_byte}
-use Rattle.tokens.proofs.Fronts.{one_front, two_front}
+use Rattle.tokens.specs.Scanning.{class, keywords, doubles, singles, limited, WordToken, Symbol, Skips, Leads, Fails, over_limit, stray_byte}
+use Rattle.std.proofs.lemmas.Slice.{first_rest}
 use Rattle.tokens.proofs.Comments.{Ends, Unclosed}
-use Rattle.tokens.proofs.Reserved.{all_both, single_lengths}
 use Rattle.tokens.proofs.Numbers.{limited_some, limited_none}
 use Rattle.tokens.proofs.Texts.{class_letter, class_digit, class_not_white, is_run, word_longest, number_longest, no_mark, Absent, no_text, double_longest, single_longest}
 
@@ -100,11 +99,6 @@ module _ {bs body : List ℕ} (opens : bs ≡ codes "/*" ++ body) where
 
 -- ---- symbols
 
-alone : (b : ℕ) (r x : List ℕ) → length x ≡ 1 → Front x (b ∷ r) → b ∷ [] ≡ x
-alone b r [] long f = absurd (omega arith)
-alone b r (a ∷ []) long f = cc f.1
-alone b r (a ∷ c ∷ x) long f = absurd (omega arith)
-
 module _ (p : ℕ) (bs : List ℕ) (k : class (get_or bs 0 0) ≡ Other) where
   module _ (clear : Front (codes "/*") bs → ⊥) (x : List ℕ) {r : List ℕ} (m : Mark) (spelt : x ≡ spelling m)
       (whole : bs ≡ x ++ r) where
@@ -119,12 +113,6 @@ module _ (p : ℕ) (bs : List ℕ) (k : class (get_or bs 0 0) ≡ Other) where
     single_leads two long = mark_leads (single_longest p bs k clear two m (ap length (sym spelt) ∙ long))
 
   module _ (b : ℕ) (r : List ℕ) (e : bs ≡ b ∷ r) where
-    pub no_singles : AllByRecursion (λ m. b ∷ [] ≡ spelling m → ⊥) singles → AllByRecursion (Absent bs) singles
-    no_singles none =
-        let absent : (m : Mark) → (b ∷ [] ≡ spelling m → ⊥) → length (spelling m) ≡ 1 → Absent bs m =
-        λ m differs long f. differs (alone b r (spelling m) long (subst (Front (spelling m)) e f)) in
-        all_both absent singles none single_lengths
-
     pub no_token : white b ≡ false → AllByRecursion (Absent bs) doubles → AllByRecursion (Absent bs) singles → Lexed p bs [] (unexpected p)
     no_token w two one =
         let none = subst (λ y. (x : List ℕ) (t : Tok) → Spells p x t → Front x y → ⊥) e (no_text p bs k two one) in
@@ -132,19 +120,10 @@ module _ (p : ℕ) (bs : List ℕ) (k : class (get_or bs 0 0) ≡ Other) where
 
 module _ (p : ℕ) (bs : List ℕ) (some : 0 < length bs) (starts : Other ≡ class (get_or bs 0 0)) where
   pub symbol_leads : (Front (codes "/*") bs → ⊥) → (m : Mark) (r : Bor (List ℕ)) → Symbol bs (Some (m, r)) → Leads p bs r.now (mark p m)
-  symbol_leads clear m r (inl (two, spelt, tail)) =
-      let a = get_or bs 0 0 in
-      let b = get_or bs 1 0 in
-      let whole : bs ≡ a ∷ b ∷ r.now = two_front bs two ∙ ap (λ x. a ∷ b ∷ x) (sym tail) in
-      double_leads p bs (sym starts) clear (a ∷ b ∷ []) m spelt whole refl
-  symbol_leads clear m r (inr (no_double, _, spelt, tail)) =
-      let a = get_or bs 0 0 in
-      let whole : bs ≡ a ∷ r.now = one_front bs some ∙ ap (λ x. a ∷ x) (sym tail) in
-      single_leads p bs (sym starts) clear (a ∷ []) m spelt whole no_double refl
+  symbol_leads clear m r (whole, inl two) = double_leads p bs (sym starts) clear (spelling m) m refl whole two
+  symbol_leads clear m r (whole, inr (one, none)) = single_leads p bs (sym starts) clear (spelling m) m refl whole none one
 
   pub no_symbol : Symbol bs None → Fails p bs (refusal UnexpectedByte p)
-  no_symbol (no_double, no_single) =
+  no_symbol (two, one) =
       let b = get_or bs 0 0 in
-      let whole = one_front bs some in
-      let one = no_singles p bs (sym starts) b (rest 1 bs) whole (no_single some) in
-      stray_byte (no_token p bs (sym starts) b (rest 1 bs) whole (class_not_white b (sym starts)) no_double one)
+      stray_byte (no_token p bs (sym starts) b _ (first_rest bs 0 some) (class_not_white b (sym starts)) two one)

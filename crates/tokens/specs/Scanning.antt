@@ -1,5 +1,5 @@
 -- What the functions that look at the front of some bytes answer.
-use Rattle.std.specs.Prelude.{◌≡◌, ℕ, ◌+◌, ◌-◌, ◌<◌, ◌≤◌, ◌⊎◌, true, false, if◌then◌else◌, List, [], ◌∷◌, ◌++◌, length, take, drop, Some, None, Ok, Err, Option, Result, ◌≢◌, nat_le, slice_index}
+use Rattle.std.specs.Prelude.{◌≡◌, ℕ, ◌+◌, ◌<◌, ◌≤◌, ◌⊎◌, true, false, if◌then◌else◌, List, [], ◌∷◌, ◌++◌, length, Some, None, Ok, Err, Option, Result, ◌≢◌, nat_le, slice_index}
 use Rattle.std.specs.Borrow.{Bor}
 use Rattle.std.specs.List.{AllByRecursion}
 use Rattle.refusal.specs.declared.Refusal.{Refusal}
@@ -21,10 +21,6 @@ use Rattle.tokens.specs.Reply.{too_large}
 
 abbrev pub class : ℕ → Class
 class b = if letter b then Letter else if digit b then Digit else if white b then White else Other
-
--- the bytes from the nth on, as a slice pattern has them
-abbrev pub rest : ℕ → List ℕ → List ℕ
-rest n bs = take (length bs - n) (drop n bs)
 
 -- no closing mark stands at i
 abbrev pub NotClosing : List ℕ → ℕ → Type 0
@@ -66,23 +62,20 @@ abbrev pub Spelt : List Mark → List ℕ → Option Mark → Type 0
 Spelt ms x (Some m) = x ≡ spelling m
 Spelt ms x None = AllByRecursion (λ m. x ≢ spelling m) ms
 
--- the symbol of two bytes at the front, and the bytes after it
-abbrev pub Double : List ℕ → Option (Mark × Bor (List ℕ)) → Type 0
-Double bs (Some s) = (1 < length bs) × (slice_index bs 0 ∷ slice_index bs 1 ∷ [] ≡ spelling s.0) × (s.1.now ≡ rest 2 bs)
-Double bs None = AllByRecursion (λ m. Front (spelling m) bs → ⊥) doubles
-
 -- the token of the word x at p: a keyword, or a name
 abbrev pub WordToken : ℕ → List ℕ → Token → Type 0
 WordToken p x (code.Mark q m) = (q ≡ p) × Spelt keywords x (Some m)
 WordToken p x (code.Name q v) = (q ≡ p) × (v.now ≡ x) × Spelt keywords x None
 WordToken p x (code.Number q n) = ⊥
 
+-- bs begins with none of these marks
+abbrev pub NoneOf : List Mark → List ℕ → Type 0
+NoneOf ms bs = AllByRecursion (λ m. Front (spelling m) bs → ⊥) ms
+
 -- the symbol at the front, the longer one where there are two, and the bytes after it
 abbrev pub Symbol : List ℕ → Option (Mark × Bor (List ℕ)) → Type 0
-Symbol bs (Some s) =
-    Double bs (Some s)
-    ⊎ (Double bs None × (0 < length bs) × (slice_index bs 0 ∷ [] ≡ spelling s.0) × (s.1.now ≡ rest 1 bs))
-Symbol bs None = Double bs None × ((0 < length bs) → Spelt singles (slice_index bs 0 ∷ []) None)
+Symbol bs (Some (m, r)) = (bs ≡ spelling m ++ r.now) × ((length (spelling m) ≡ 2) ⊎ ((length (spelling m) ≡ 1) × NoneOf doubles bs))
+Symbol bs None = NoneOf doubles bs × NoneOf singles bs
 
 -- ---- parts
 

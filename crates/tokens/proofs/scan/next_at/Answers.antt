@@ -1,10 +1,10 @@
 use Rattle.std.proofs.Common.{◌≡◌, ◌++◌, codes, Some, None, Err, rules, get_or, take, sym, ap, ◌∙◌, refl, arith}
 use Rattle.std.specs.List.{prefix_len}
+use Rattle.std.proofs.lemmas.Slice.{first_rest}
 use Rattle.refusal.specs.declared.Reason.TheVariants.{NumberTooLarge, UnclosedComment, UnexpectedByte}
 use Rattle.refusal.specs.Faults.{refusal}
 use Rattle.tokens.specs.Lexemes.{letter, digit, Front}
 use Rattle.tokens.specs.Scanning.{open_comment}
-use Rattle.tokens.proofs.Fronts.{one_front}
 use Rattle.tokens.proofs.Texts.{class_white}
 use Rattle.tokens.proofs.Standing.{word_stands, number_digits, number_stands, number_fails, skips_blank, skips_comment, left_open, symbol_leads, no_symbol}
 use Rattle.tokens.proofs.scan.next_at.Goals as goal
@@ -28,7 +28,7 @@ returns-in-Some c =
 pub returns-in-White : goal.returns-in-White
 returns-in-White c =
     let s = c.args.s.now in
-    skips_blank (get_or s 0 0) (one_front s (omega arith)) (class_white (get_or s 0 0) (sym c.in-White.ensures))
+    skips_blank (get_or s 0 0) (first_rest s 0 (omega arith)) (class_white (get_or s 0 0) (sym c.in-White.ensures))
 
 pub returns-in-Letter : goal.returns-in-Letter
 returns-in-Letter c =
