@@ -1,16 +1,8 @@
 -- Nodes that are added leave the trees of the nodes before them.
-use mathlib.Core.Path.{◌≡◌, refl, sym, ap, subst, ◌∙◌}
-use mathlib.Core.Logic.{◌≢◌, ⊎_elim}
-use mathlib.Core.List.{List, ◌∷◌}
-use Prim.Native.Nat.{ℕ, suc, zero, ◌-◌, ◌+◌, ◌<◌, ◌≤◌}
-use native.Mathlib.Omega.{arith}
-use native.Mathlib.Nat.{eq-or-lt_of_le}
-use lib.ListN.{length, set}
-use lib.Seq.{get_or-set_same, get_or-set_other}
+use Rattle.std.proofs.Common.{◌≡◌, ℕ, zero, suc, ◌+◌, ◌-◌, ◌<◌, ◌≤◌, ◌≢◌, List, length, set, sym, refl, ap, ◌∙◌, subst, ⊎_elim, eq-or-lt_of_le, arith, get_or-set_same, get_or-set_other}
 use Rattle.syntax.specs.declared.node.Node.{Node}
 use Rattle.syntax.specs.declared.node.Node.TheVariants.{Nothing, Literal, Variable, Element, Paren, Binary, Assign, AssignElement, Call, Argument, Empty, Expression, Compound, If, IfElse, While, Return, ReturnValue, Statement, Block, NumberLocal, ArrayLocal, NumberParam, ArrayParam, NumberGlobal, ArrayGlobal, Function}
-use Rattle.syntax.specs.Trees.{variable, paren, binary, assign, call, simple, element, arg, single, array, number_param, array_param, expression, compound, if_then, if_else, while, return_value, stmt, block, global, function}
-use Rattle.syntax.specs.Nodes.{Tree, of_expr, of_args, of_stmt, of_stmts, of_block, of_variables, of_params, of_decls, decode, Below, at, tree_within, tree_at, Down, Kept}
+use Rattle.syntax.specs.Nodes.{Tree, decode, Below, at, tree_within, tree_at, Down, Kept}
 
 module _ {M N : Type 0} (n : M → N) where
   -- only the trees at a node's indices count
@@ -18,32 +10,30 @@ module _ {M N : Type 0} (n : M → N) where
   decode_same i f g Nothing b e = refl
   decode_same i f g (Literal p v) b e = refl
   decode_same i f g (Variable x) b e = refl
-  decode_same i f g (Element x j) b e = ap (λ t. of_expr (variable (element (n x) t.expr))) (e j b)
-  decode_same i f g (Paren p j) b e = ap (λ t. of_expr (paren p t.expr)) (e j b)
-  decode_same i f g (Binary j o p k) b e = let q = e j b.0 in let r = e k b.1 in λ z. of_expr (binary (q z).expr o p (r z).expr)
-  decode_same i f g (Assign x j) b e = ap (λ t. of_expr (assign (simple (n x)) t.expr)) (e j b)
-  decode_same i f g (AssignElement x j k) b e = let q = e j b.0 in let r = e k b.1 in λ z. of_expr (assign (element (n x) (q z).expr) (r z).expr)
-  decode_same i f g (Call x p j) b e = ap (λ t. of_expr (call (n x) p t.args)) (e j b)
-  decode_same i f g (Argument j k) b e = let q = e j b.0 in let r = e k b.1 in λ z. of_args (arg (q z).expr (r z).args)
+  decode_same i f g (Element x j) b e = cc (e j b)
+  decode_same i f g (Paren p j) b e = cc (e j b)
+  decode_same i f g (Binary j o p k) b e = cc (e j b.0, e k b.1)
+  decode_same i f g (Assign x j) b e = cc (e j b)
+  decode_same i f g (AssignElement x j k) b e = cc (e j b.0, e k b.1)
+  decode_same i f g (Call x p j) b e = cc (e j b)
+  decode_same i f g (Argument j k) b e = cc (e j b.0, e k b.1)
   decode_same i f g Empty b e = refl
-  decode_same i f g (Expression j) b e = ap (λ t. of_stmt (expression t.expr)) (e j b)
-  decode_same i f g (Compound j) b e = ap (λ t. of_stmt (compound t.block)) (e j b)
-  decode_same i f g (If p j k) b e = let q = e j b.0 in let r = e k b.1 in λ z. of_stmt (if_then p (q z).expr (r z).stmt)
-  decode_same i f g (IfElse p j k l) b e = let q = e j b.0 in let r = e k b.1 in let s = e l b.2 in λ z. of_stmt (if_else p (q z).expr (r z).stmt (s z).stmt)
-  decode_same i f g (While p j k) b e = let q = e j b.0 in let r = e k b.1 in λ z. of_stmt (while p (q z).expr (r z).stmt)
+  decode_same i f g (Expression j) b e = cc (e j b)
+  decode_same i f g (Compound j) b e = cc (e j b)
+  decode_same i f g (If p j k) b e = cc (e j b.0, e k b.1)
+  decode_same i f g (IfElse p j k l) b e = cc (e j b.0, e k b.1, e l b.2)
+  decode_same i f g (While p j k) b e = cc (e j b.0, e k b.1)
   decode_same i f g (Return p) b e = refl
-  decode_same i f g (ReturnValue p j) b e = ap (λ t. of_stmt (return_value p t.expr)) (e j b)
-  decode_same i f g (Statement j k) b e = let q = e j b.0 in let r = e k b.1 in λ z. of_stmts (stmt (q z).stmt (r z).stmts)
-  decode_same i f g (Block j k) b e = let q = e j b.0 in let r = e k b.1 in λ z. of_block (block (q z).variables (r z).stmts)
-  decode_same i f g (NumberLocal t x j) b e = ap (λ y. of_variables (single t (n x) ∷ y.variables)) (e j b)
-  decode_same i f g (ArrayLocal t x p v j) b e = ap (λ y. of_variables (array t (n x) p v ∷ y.variables)) (e j b)
-  decode_same i f g (NumberParam t x j) b e = ap (λ y. of_params (number_param t (n x) ∷ y.params)) (e j b)
-  decode_same i f g (ArrayParam t x j) b e = ap (λ y. of_params (array_param t (n x) ∷ y.params)) (e j b)
-  decode_same i f g (NumberGlobal t x j) b e = ap (λ y. of_decls (global (single t (n x)) ∷ y.decls)) (e j b)
-  decode_same i f g (ArrayGlobal t x p v j) b e = ap (λ y. of_decls (global (array t (n x) p v) ∷ y.decls)) (e j b)
-  decode_same i f g (Function t x p j k l) b e =
-      let q = e j b.0 in let r = e k b.1 in let s = e l b.2 in
-      λ z. of_decls (function t (n x) p (q z).params (r z).block ∷ (s z).decls)
+  decode_same i f g (ReturnValue p j) b e = cc (e j b)
+  decode_same i f g (Statement j k) b e = cc (e j b.0, e k b.1)
+  decode_same i f g (Block j k) b e = cc (e j b.0, e k b.1)
+  decode_same i f g (NumberLocal t x j) b e = cc (e j b)
+  decode_same i f g (ArrayLocal t x p v j) b e = cc (e j b)
+  decode_same i f g (NumberParam t x j) b e = cc (e j b)
+  decode_same i f g (ArrayParam t x j) b e = cc (e j b)
+  decode_same i f g (NumberGlobal t x j) b e = cc (e j b)
+  decode_same i f g (ArrayGlobal t x p v j) b e = cc (e j b)
+  decode_same i f g (Function t x p j k l) b e = cc (e j b.0, e k b.1, e l b.2)
 
   -- enough height is enough, and nodes past i do not count
   tree_same : (m : ℕ) (ns ms : List (Node M)) → Down ns m → Kept m ns ms → (f g i : ℕ) → i < m → i < f → i < g

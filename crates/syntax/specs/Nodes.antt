@@ -1,5 +1,5 @@
 -- A tree in an array of nodes.
-use Rattle.std.specs.Prelude.{List, [], ◌∷◌, ◌≡◌, ℕ, zero, suc, ◌<◌, get_or}
+use Rattle.std.specs.Prelude.{List, [], ◌∷◌, ◌≡◌, ℕ, zero, suc, ◌<◌, slice_index_or, ⊤}
 use Rattle.syntax.specs.declared.node.Name as code
 use Rattle.syntax.specs.declared.node.Node.{Node}
 use Rattle.syntax.specs.declared.node.Node.TheVariants.{Nothing, Literal, Variable, Element, Paren, Binary, Assign, AssignElement, Call, Argument, Empty, Expression, Compound, If, IfElse, While, Return, ReturnValue, Statement, Block, NumberLocal, ArrayLocal, NumberParam, ArrayParam, NumberGlobal, ArrayGlobal, Function}
@@ -21,31 +21,40 @@ pub record Tree (N : Type 0) : Type 0 where
   pub decls : List (Decl N)
 
 abbrev pub nothing : {N : Type 0} → Tree N
-nothing = record { expr = literal 0 0; args = no_args; stmt = empty; stmts = no_stmts; block = block [] no_stmts; variables = []; params = []; decls = [] }
+nothing = record {
+  expr = literal 0 0;
+  args = no_args;
+  stmt = empty;
+  stmts = no_stmts;
+  block = block [] no_stmts;
+  variables = [];
+  params = [];
+  decls = [];
+}
 
 abbrev pub of_expr : {N : Type 0} → Expr N → Tree N
-of_expr x = record { expr = x; args = no_args; stmt = empty; stmts = no_stmts; block = block [] no_stmts; variables = []; params = []; decls = [] }
+of_expr x = record nothing { expr = x }
 
 abbrev pub of_args : {N : Type 0} → Args N → Tree N
-of_args x = record { expr = literal 0 0; args = x; stmt = empty; stmts = no_stmts; block = block [] no_stmts; variables = []; params = []; decls = [] }
+of_args x = record nothing { args = x }
 
 abbrev pub of_stmt : {N : Type 0} → Stmt N → Tree N
-of_stmt x = record { expr = literal 0 0; args = no_args; stmt = x; stmts = no_stmts; block = block [] no_stmts; variables = []; params = []; decls = [] }
+of_stmt x = record nothing { stmt = x }
 
 abbrev pub of_stmts : {N : Type 0} → Stmts N → Tree N
-of_stmts x = record { expr = literal 0 0; args = no_args; stmt = empty; stmts = x; block = block [] no_stmts; variables = []; params = []; decls = [] }
+of_stmts x = record nothing { stmts = x }
 
 abbrev pub of_block : {N : Type 0} → tree.Block N → Tree N
-of_block x = record { expr = literal 0 0; args = no_args; stmt = empty; stmts = no_stmts; block = x; variables = []; params = []; decls = [] }
+of_block x = record nothing { block = x }
 
 abbrev pub of_variables : {N : Type 0} → List (tree.Variable N) → Tree N
-of_variables x = record { expr = literal 0 0; args = no_args; stmt = empty; stmts = no_stmts; block = block [] no_stmts; variables = x; params = []; decls = [] }
+of_variables x = record nothing { variables = x }
 
 abbrev pub of_params : {N : Type 0} → List (Param N) → Tree N
-of_params x = record { expr = literal 0 0; args = no_args; stmt = empty; stmts = no_stmts; block = block [] no_stmts; variables = []; params = x; decls = [] }
+of_params x = record nothing { params = x }
 
 abbrev pub of_decls : {N : Type 0} → List (Decl N) → Tree N
-of_decls x = record { expr = literal 0 0; args = no_args; stmt = empty; stmts = no_stmts; block = block [] no_stmts; variables = []; params = []; decls = x }
+of_decls x = record nothing { decls = x }
 
 -- The tree of a node whose parts are the trees at its indices; a name in a node stands for a name in the tree.
 abbrev pub decode : {M N : Type 0} → (M → N) → (ℕ → Tree N) → Node M → Tree N
@@ -79,9 +88,9 @@ decode n f (Function t x p i j k) = of_decls (function t (n x) p (f i).params (f
 
 -- the indices that a node holds are below i
 abbrev pub Below : {M : Type 0} → ℕ → Node M → Type 0
-Below i Nothing = Unit {0}
-Below i (Literal p v) = Unit {0}
-Below i (Variable x) = Unit {0}
+Below i Nothing = ⊤
+Below i (Literal p v) = ⊤
+Below i (Variable x) = ⊤
 Below i (Element x j) = j < i
 Below i (Paren p j) = j < i
 Below i (Binary j o p k) = (j < i) × (k < i)
@@ -89,13 +98,13 @@ Below i (Assign x j) = j < i
 Below i (AssignElement x j k) = (j < i) × (k < i)
 Below i (Call x p j) = j < i
 Below i (Argument j k) = (j < i) × (k < i)
-Below i Empty = Unit {0}
+Below i Empty = ⊤
 Below i (Expression j) = j < i
 Below i (Compound j) = j < i
 Below i (If p j k) = (j < i) × (k < i)
 Below i (IfElse p j k l) = (j < i) × (k < i) × (l < i)
 Below i (While p j k) = (j < i) × (k < i)
-Below i (Return p) = Unit {0}
+Below i (Return p) = ⊤
 Below i (ReturnValue p j) = j < i
 Below i (Statement j k) = (j < i) × (k < i)
 Below i (Block j k) = (j < i) × (k < i)
@@ -108,7 +117,7 @@ Below i (ArrayGlobal t x p v j) = j < i
 Below i (Function t x p j k l) = (j < i) × (k < i) × (l < i)
 
 abbrev pub at : {M : Type 0} → List (Node M) → ℕ → Node M
-at ns i = get_or ns i Nothing
+at ns i = slice_index_or ns i Nothing
 
 -- the tree at i, if it is less than so high
 abbrev pub tree_within : {M N : Type 0} → (M → N) → ℕ → List (Node M) → ℕ → Tree N

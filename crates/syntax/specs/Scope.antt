@@ -1,11 +1,11 @@
 -- The names in force where a part of a rule stands, and the rule with the meaning of each of its names.
-use Rattle.std.specs.Prelude.{ℕ, ◌+◌, Bool, true, false, cond, List, [], ◌∷◌, codes, eqb}
+use Rattle.std.specs.Prelude.{ℕ, ◌+◌, List, [], ◌∷◌, Some, Option, codes, bytes_eq, find, option_map}
 use Rattle.syntax.specs.declared.node.TypeName.{TypeName}
 use Rattle.syntax.specs.declared.node.TypeName.TheVariants.{Int}
 use Rattle.syntax.specs.declared.spot.Home.{Home}
 use Rattle.syntax.specs.declared.spot.Home.TheVariants.{Global, Local}
 use Rattle.syntax.specs.declared.spot.Spot.{Spot}
-use Rattle.syntax.specs.declared.spot.Spot.TheVariants.{Unknown, Number, Array, Handed, Input, Output, Function}
+use Rattle.syntax.specs.declared.spot.Spot.TheVariants.{Number, Array, Handed, Input, Output, Function}
 use Rattle.syntax.specs.declared.spot.Meant.{Meant}
 use Rattle.syntax.specs.Trees.{Name, Expr, literal, variable, paren, binary, assign, call, Var, simple, element, Args, no_args, arg, Variable, single, array, Param, number_param, array_param, Stmt, empty, expression, compound, if_then, if_else, while, return, return_value, Stmts, no_stmts, stmt, Block, block, global, function, Program, Rule}
 use Rattle.syntax.specs.Sizes.{cells, room, width}
@@ -20,16 +20,9 @@ pub record Entry : Type 0 where
 abbrev pub Scope : Type 0
 Scope = List Entry
 
-abbrev pub alike : List ℕ → List ℕ → Bool
-alike [] [] = true
-alike [] (c ∷ y) = false
-alike (b ∷ x) [] = false
-alike (b ∷ x) (c ∷ y) = cond (eqb b c) (alike x y) false
-
--- the nearest entry of a name
-abbrev pub look : List ℕ → Scope → Entry
-look x [] = record { text = x; spot = Unknown; params = [] }
-look x (e ∷ S) = cond (alike x e.text) e (look x S)
+-- the nearest entry of a name, if the name is in force
+abbrev pub look : List ℕ → Scope → Option Entry
+look x S = find (λ e. bytes_eq x e.text) S
 
 -- ---- what declarations put in force
 
@@ -74,11 +67,13 @@ begin = output_entry ∷ input_entry ∷ []
 
 -- ---- each name with its meaning
 
+-- the name of a declaration, with what it means
 abbrev pub meant : Name → Spot → Meant
-meant x s = record { place = x.place; spot = s }
+meant x s = record { place = x.place; spot = Some s }
 
+-- a name that is used, with what it means in the scope, if anything
 abbrev pub found : Scope → Name → Meant
-found S x = meant x (look x.text S).spot
+found S x = record { place = x.place; spot = option_map (λ e. e.spot) (look x.text S) }
 
 abbrev mutual
   pub resolve_expr : Scope → Expr Name → Expr Meant

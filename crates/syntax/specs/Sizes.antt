@@ -1,5 +1,5 @@
 -- How many cells variables and parameters take.
-use Rattle.std.specs.Prelude.{ℕ, ◌+◌, List, [], ◌∷◌}
+use Rattle.std.specs.Prelude.{ℕ, ◌+◌, List, [], ◌∷◌, sum_by}
 use Rattle.syntax.specs.Trees.{Variable, single, array, Param, number_param, array_param, Decl, global, function}
 
 -- a number takes 1, an array its size
@@ -8,8 +8,7 @@ cells (single t x) = 1
 cells (array t x p n) = n
 
 abbrev pub room : {N : Type 0} → List (Variable N) → ℕ
-room [] = 0
-room (x ∷ xs) = cells x + room xs
+room xs = sum_by cells xs
 
 -- as an argument a number takes 1, an array 2
 abbrev pub width : {N : Type 0} → List (Param N) → ℕ

@@ -1,14 +1,14 @@
 use crate::operator::Operator;
 
 // The type that a declaration names.
-#[derive(Clone, Copy)]
+#[derive(Clone, Copy, PartialEq, Eq, Debug)]
 pub enum TypeName {
     Int,
     Void,
 }
 
 // A name where it is written: the number of bytes before it, and its bytes.
-#[derive(Clone, Copy)]
+#[derive(Clone, Copy, PartialEq, Eq, Debug)]
 pub struct Name<'a> {
     pub place: usize,
     pub text: &'a [u8],
@@ -16,6 +16,7 @@ pub struct Name<'a> {
 
 // A node of a rule's tree. The nodes of its parts stand at the indices that it holds, each below its own. A list is its first
 // element and the list of those after it, or nothing. A `paren` is the place of a left parenthesis.
+// Indices and not boxes: the libraries allocate nothing, and a tree stands in an array of fixed length.
 #[derive(Clone, Copy)]
 pub enum Node<N> {
     Nothing,

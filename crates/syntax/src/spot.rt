@@ -1,7 +1,7 @@
 use crate::node::TypeName;
 
 // Where the cells of a variable begin: at a cell of their own, or so many cells into the frame of the call.
-#[derive(Clone, Copy)]
+#[derive(Clone, Copy, PartialEq, Eq, Debug)]
 pub enum Home {
     Global(usize),
     Local(usize),
@@ -9,9 +9,8 @@ pub enum Home {
 
 // What a name means to the translator. An array has its size. An array parameter is handed in two cells of the frame, which hold
 // the array's first cell and its size; a function has its number among the functions.
-#[derive(Clone, Copy)]
+#[derive(Clone, Copy, PartialEq, Eq, Debug)]
 pub enum Spot {
-    Unknown,
     Number(Home),
     Array(Home, u32),
     Handed(usize),
@@ -20,9 +19,9 @@ pub enum Spot {
     Function(TypeName, usize),
 }
 
-// What the name at a place means.
-#[derive(Clone, Copy)]
+// What the name at a place means, if it is in force.
+#[derive(Clone, Copy, PartialEq, Eq, Debug)]
 pub struct Meant {
     pub place: usize,
-    pub spot: Spot,
+    pub spot: Option<Spot>,
 }

@@ -1,7 +1,9 @@
 -- Where a comment ends.
-use Rattle.std.proofs.Common.{◌≡◌, ℕ, ◌+◌, ◌⊎◌, List, [], ◌∷◌, ◌++◌, length, codes, sym, refl, ap, ◌∙◌, subst, inl, inr, append_assoc, arith, length-append}
+use Rattle.std.proofs.Common.{◌≡◌, ℕ, zero, suc, ◌+◌, ◌≤◌, ◌⊎◌, List, [], ◌∷◌, ◌++◌, length, get_or, drop, codes, Some, None, sym, refl, ap, ◌∙◌, subst, inl, inr, append_assoc, add-one, arith, length-append}
+use Rattle.std.proofs.Math.Numerals.{unary_clauses}
 use Rattle.tokens.specs.Lexemes.{Front, Closed, Body}
-use Rattle.tokens.proofs.Fronts.{clash, front?}
+use Rattle.tokens.specs.Scanning.{NotClosing, FirstClosing}
+use Rattle.tokens.proofs.Fronts.{front?}
 
 -- the first closing mark of bs stands right before r
 abbrev pub Ends : List ℕ → List ℕ → Type 0
@@ -14,14 +16,14 @@ pub long_enough : (x : List ℕ) → Closed x → (n : ℕ) × (length x ≡ n +
 long_enough x c = (length c.0, ap length c.1 ∙ length-append c.0 (codes "*/"))
 
 none_closed : Closed [] → ⊥
-none_closed c = let n = long_enough [] c in clash (omega (arith, n.1))
+none_closed c = let n = long_enough [] c in omega (arith, n.1)
 
 mark_first : (y v : List ℕ) → codes "*/" ≡ y ++ v → Closed y → v ≡ []
 mark_first y [] e c = refl
 mark_first y (b ∷ v) e c =
     let n = long_enough y c in
     let m = ap length e ∙ length-append y (b ∷ v) in
-    absurd (clash (omega (arith, n.1, m)))
+    absurd (omega (arith, n.1, m))
 
 pub mark_body : Body (codes "*/")
 mark_body = record { closed = ([], refl); first = mark_first }
@@ -57,7 +59,7 @@ module _ (a : ℕ) (t : List ℕ) (no_mark : Front (codes "*/") (a ∷ t) → �
 
 pub unclosed_none : Unclosed []
 unclosed_none [] f c = none_closed c
-unclosed_none (b ∷ x) f c = clash (let z = ap length f.1 in omega arith)
+unclosed_none (b ∷ x) f c = let z = ap length f.1 in omega arith
 
 pub comment_end : (bs : List ℕ) → ((r : List ℕ) × Ends bs r) ⊎ Unclosed bs
 comment_end [] = inr unclosed_none
@@ -69,3 +71,31 @@ comment_end (a ∷ t) =
         | inr u ↦ inr (unclosed_later a t no_mark u)
       ]
     ]
+
+-- ---- by the index of the mark
+
+front_marks : (a : ℕ) (t : List ℕ) → Front (codes "*/") (a ∷ t) → (2 ≤ length (a ∷ t)) × (a ≡ 42) × (get_or t 0 0 ≡ 47)
+front_marks a t (r, e) =
+    let long = ap length e in
+    (omega arith, cc, ap (λ bs. get_or bs 1 0) e)
+
+-- the same without the first byte
+NotClosing_tail : (a : ℕ) (t : List ℕ) (k : ℕ) → NotClosing (a ∷ t) (k + 1) → NotClosing t k
+NotClosing_tail a t k h = simp add-one (simp add-one at h)
+
+pub ends_at : (bs : List ℕ) (i : ℕ) → FirstClosing bs (Some i) → Ends bs (drop (i + 2) bs)
+ends_at [] i h = absurd (omega (arith, h.0))
+ends_at (a ∷ []) i h = absurd (omega (arith, h.0))
+ends_at (a ∷ b ∷ t) zero h = subst (λ bs. Ends bs t) (cc (h.1, h.2)) (ends_here t)
+ends_at (a ∷ b ∷ t) (suc i) h =
+    let none : Front (codes "*/") (a ∷ b ∷ t) → ⊥ = λ f. let m = front_marks a (b ∷ t) f in h.3 0 (omega arith) m.1 m.2 in
+    let tail : FirstClosing (b ∷ t) (Some i) =
+    (omega (arith, h.0), h.1, simp add-one (simp add-one at h.2), λ k lt. NotClosing_tail a (b ∷ t) k (h.3 (k + 1) (omega arith))) in
+    let later : Ends (a ∷ b ∷ t) (drop (i + 2) (b ∷ t)) = ends_later a (b ∷ t) none _ (ends_at (b ∷ t) i tail) in
+    simp unary_clauses (simp unary_clauses at later)
+
+pub unclosed_by : (bs : List ℕ) → FirstClosing bs None → Unclosed bs
+unclosed_by [] h = unclosed_none
+unclosed_by (a ∷ t) h =
+    let none : Front (codes "*/") (a ∷ t) → ⊥ = λ f. let m = front_marks a t f in h 0 (omega (arith, m.0)) m.1 m.2 in
+    unclosed_later a t none (unclosed_by t (λ k le. NotClosing_tail a t k (h (k + 1) (omega arith))))

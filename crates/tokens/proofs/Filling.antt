@@ -1,20 +1,19 @@
 -- The pass that writes the tokens of a source without fault.
-use Rattle.std.proofs.Common.{◌≡◌, ℕ, ◌+◌, ◌-◌, ◌<◌, ◌≤◌, false, List, [], ◌∷◌, ◌++◌, map, length, take, drop, set, Some, None, Ok, Option, sym, refl, ap, ◌∙◌, subst, inl, inr, append_assoc, append-nil, arith, length-set, Bor}
-use native.Mathlib.Nat.{sub_self}
+use Rattle.std.proofs.Common.{◌≡◌, ℕ, ◌+◌, ◌-◌, ◌<◌, ◌≤◌, false, List, [], ◌∷◌, ◌++◌, map, length, take, drop, set, Some, None, Ok, Err, Option, Result, sym, refl, ap, ◌∙◌, subst, inl, inr, append_assoc, append-nil, arith, length-set}
+use Rattle.std.proofs.Math.Nat.{sub_self}
 use Rattle.std.specs.List.{AllByRecursion}
 use Rattle.std.proofs.lemmas.List.{drop-drop, drop-set-lt, take_more_set, map_push, length_push}
 use Rattle.std.proofs.lemmas.Bool.{cases_Bool, cond-true, both_ways}
 use Rattle.refusal.specs.declared.Refusal.{Refusal}
 use Rattle.refusal.specs.declared.Reason.TheVariants.{NumberTooLarge}
 use Rattle.tokens.specs.declared.scan.Next.{Next}
-use Rattle.tokens.specs.declared.scan.Next.TheVariants as next
 use Rattle.tokens.specs.declared.token.Token.{Token}
 use Rattle.tokens.specs.Tokens.{Tok, tok}
 use Rattle.tokens.specs.Lexemes.{Lexeme, Ending, complete, unclosed, unexpected, Lexed, finished}
-use Rattle.tokens.specs.Reply.{refusal, too_large, fault, or_else, first_fault, start, TokensAfter}
-use Rattle.tokens.specs.Scanning.{Skips, Leads, Stands}
+use Rattle.refusal.specs.Faults.{refusal, or_else}
+use Rattle.tokens.specs.Reply.{too_large, fault, first_fault, start, TokensAfter}
+use Rattle.tokens.specs.Scanning.{Skips, Leads, Fails, over_limit, open_comment, stray_byte, Stands}
 use Rattle.tokens.specs.Survey.{Faultless, Filled}
-use Rattle.tokens.proofs.Fronts.{clash}
 use Rattle.tokens.proofs.Total.{lexeme_of, after_gap, after_lexeme, skips_shorter, leads_shorter, total}
 use Rattle.tokens.proofs.Unique.{unique}
 use Rattle.tokens.proofs.Survey.{later}
@@ -47,7 +46,7 @@ Small l = too_large l.token ≡ false
 
 pub later_clean : (f g : Option Refusal) → or_else f g ≡ None → g ≡ None
 later_clean None g e = e
-later_clean (Some f) g e = absurd (clash (cc))
+later_clean (Some f) g e = cc
 
 small_numbers : (last : Lexeme) (ls : List Lexeme) (e : Ending) → first_fault last ls e ≡ None → AllByRecursion Small ls
 small_numbers last [] e clean = tt
@@ -55,24 +54,16 @@ small_numbers last (l ∷ ls) e clean =
     elim (cases_Bool (too_large l.token)) [
       | inl large ↦
           let found : fault last l ≡ Some (refusal NumberTooLarge l.place) = cond-true _ _ _ large in
-          absurd (clash (cc (clean, ap (λ f. or_else f (first_fault l ls e)) found)))
+          cc (clean, ap (λ f. or_else f (first_fault l ls e)) found)
       | inr small ↦ (small, small_numbers l ls e (later_clean (fault last l) (first_fault l ls e) clean))
     ]
 
--- what stands where the pass ends
-nothing_left : {p : ℕ} {bs : List ℕ} {ls : List Lexeme} → Lexed p bs ls complete → AllByRecursion Small ls → (n : Next) → Stands p bs n
-    → ((t : Token) (r : Bor (List ℕ)) → n ≡ next.Token t r → ⊥) → ((r : Bor (List ℕ)) → n ≡ next.Gap r → ⊥) → ls ≡ []
-nothing_left {p} d small next.End empty no_token no_gap =
-    (no_other_ending d complete (subst (λ bs. Lexed p bs [] complete) (sym empty) finished)).0
-nothing_left d small (next.Gap r) stands no_token no_gap = absurd (no_gap r refl)
-nothing_left d small (next.Token t r) stands no_token no_gap = absurd (no_token t r refl)
-nothing_left d small next.TooLarge (r, t, l, large) no_token no_gap =
+no_fault : {p : ℕ} {bs : List ℕ} {ls : List Lexeme} {f : Refusal} → Lexed p bs ls complete → AllByRecursion Small ls → Fails p bs f → ⊥
+no_fault d small (over_limit {t = t} l large) =
     let (ms, is, d') = past_lexeme d l in
-    absurd (both_ways (too_large t) (subst (AllByRecursion Small) is small).0 large)
-nothing_left {p} d small next.Unclosed open-end no_token no_gap =
-    absurd (clash (cc (no_other_ending d (unclosed p) open-end).1))
-nothing_left {p} d small next.Unexpected no_text no_token no_gap =
-    absurd (clash (cc (no_other_ending d (unexpected p) no_text).1))
+    both_ways (too_large t) (subst (AllByRecursion Small) is small).0 large
+no_fault {p} d small (open_comment ends) = cc (no_other_ending d (unclosed p) ends).1
+no_fault {p} d small (stray_byte ends) = cc (no_other_ending d (unexpected p) ends).1
 
 -- ---- one write
 
@@ -177,13 +168,18 @@ module _ {source rest : List ℕ} {count : ℕ} {tokens before : List Token} (v 
           kept = write_kept tokens count token inside before v.kept;
         }
 
-  module _ (n : Next) (stands : Stands place rest n) (no_token : (t : Token) (r : Bor (List ℕ)) → n ≡ next.Token t r → ⊥)
-      (no_gap : (r : Bor (List ℕ)) → n ≡ next.Gap r → ⊥) where
-    pub filled_all : Filled source before tokens
-    filled_all ls d =
-        let all : ls ≡ v.done =
-        (unique 0 source ls (v.done ++ v.left) complete complete d v.whole).0
-        ∙ ap (λ ks. v.done ++ ks) (nothing_left v.ahead v.small n stands no_token no_gap) ∙ append-nil v.done in
-        let here : TokensAfter v.done before tokens (Ok (length v.done)) =
-        subst (λ m. TokensAfter v.done before tokens (Ok m)) v.counted (v.filled, v.kept) in
-        subst (λ ks. TokensAfter ks before tokens (Ok (length ks))) (sym all) here
+  pub filled_end : rest ≡ [] → Filled source before tokens
+  filled_end empty ls d =
+      let none : v.left ≡ [] =
+      (no_other_ending v.ahead complete (subst (λ bs. Lexed place bs [] complete) (sym empty) finished)).0 in
+      let all : ls ≡ v.done =
+      (unique 0 source ls (v.done ++ v.left) complete complete d v.whole).0
+      ∙ ap (λ ks. v.done ++ ks) none ∙ append-nil v.done in
+      let here : TokensAfter v.done before tokens (Ok (length v.done)) =
+      subst (λ m. TokensAfter v.done before tokens (Ok m)) v.counted (v.filled, v.kept) in
+      subst (λ ks. TokensAfter ks before tokens (Ok (length ks))) (sym all) here
+
+  pub filled_fault : (n : Result Next Refusal) → Stands place rest n → ((next : Next) → n ≡ Ok next → ⊥)
+      → Filled source before tokens
+  filled_fault (Ok next) stands not_ok = absurd (not_ok next refl)
+  filled_fault (Err f) fails not_ok = absurd (no_fault v.ahead v.small fails)

@@ -1,17 +1,11 @@
 -- What some bytes begin with.
-use Rattle.std.proofs.Common.{◌≡◌, ℕ, ◌<◌, ◌⊎◌, List, [], ◌∷◌, ◌++◌, length, get_or, Some, sym, refl, ap, inl, inr, arith, Bor}
-use Rattle.std.proofs.lemmas.List.{take_rest}
-use Rattle.std.proofs.lemmas.Slice.{first_rest}
+use Rattle.std.proofs.Common.{◌≡◌, ℕ, ◌⊎◌, List, [], ◌∷◌, ◌++◌, length, sym, refl, ap, inl, inr, arith}
 use Rattle.std.proofs.lemmas.Bool.{cases_eq}
 use Rattle.tokens.specs.Lexemes.{Front}
-use Rattle.tokens.specs.Scanning.{rest, After}
-
-pub clash : ◌≡◌ {A = ℕ} 0 1 → ⊥
-clash e = omega arith
 
 pub front? : (x bs : List ℕ) → Front x bs ⊎ (Front x bs → ⊥)
 front? [] bs = inl (bs, refl)
-front? (a ∷ x) [] = inr (λ f. clash (let n = ap length f.1 in omega arith))
+front? (a ∷ x) [] = inr (λ f. let n = ap length f.1 in omega arith)
 front? (a ∷ x) (b ∷ bs) =
     elim (cases_eq b a) [
       | inl e ↦ elim (front? x bs) [ inl f ↦ inl (f.0, cc f.1) | inr no_front ↦ inr (λ f. no_front (f.0, cc f.1)) ]
@@ -30,20 +24,3 @@ compared (a ∷ x) r (b ∷ y) v e =
     let tails : x ++ r ≡ y ++ v = cc in
     let heads : a ≡ b = cc in
     elim (compared x r y v tails) [ longer w p q ↦ longer w (cc) q | shorter w p q ↦ shorter w (cc) q ]
-
--- the first two bytes, and the rest as a slice pattern has it
-pub two_front : (bs : List ℕ) → 1 < length bs → bs ≡ get_or bs 0 0 ∷ get_or bs 1 0 ∷ rest 2 bs
-two_front [] h = absurd (omega arith)
-two_front (a ∷ []) h = absurd (omega arith)
-two_front (a ∷ b ∷ bs) h = ap (λ x. a ∷ b ∷ x) (sym (take_rest (a ∷ b ∷ bs) 2))
-
-pub one_front : (bs : List ℕ) → 0 < length bs → bs ≡ get_or bs 0 0 ∷ rest 1 bs
-one_front bs h = first_rest bs 0 h
-
-pub after_is : (a b : ℕ) (bs : List ℕ) (r : Bor (List ℕ)) → After a b bs (Some r) → bs ≡ a ∷ b ∷ r.now
-after_is a b bs r h =
-    let whole = two_front bs h.0 in
-    let first = h.1 in
-    let second = h.2 in
-    let tail = h.3 in
-    cc

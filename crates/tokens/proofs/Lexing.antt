@@ -5,9 +5,9 @@ use Rattle.refusal.specs.declared.Refusal.{Refusal}
 use Rattle.refusal.specs.declared.Reason.TheVariants.{SourceTooLong}
 use Rattle.tokens.specs.declared.token.Token.{Token}
 use Rattle.tokens.specs.Lexemes.{Lexeme, Ending, complete, unexpected, unclosed, Lexed}
-use Rattle.tokens.specs.Reply.{refusal, ending_fault, first_fault, fault, start, unless, lexeme_count, lex_reply, TokensAfter, Lexes}
+use Rattle.refusal.specs.Faults.{refusal, unless}
+use Rattle.tokens.specs.Reply.{ending_fault, first_fault, fault, start, lexeme_count, lex_reply, TokensAfter, Lexes}
 use Rattle.tokens.specs.Survey.{Surveyed, Faultless, Filled}
-use Rattle.tokens.proofs.Fronts.{clash}
 use Rattle.tokens.proofs.Total.{total}
 use Rattle.tokens.proofs.Filling.{later_clean}
 
@@ -26,11 +26,11 @@ too_long source tokens long =
 unless_ok : {X : Type 0} (f : Option Refusal) (answer : Result X Refusal) (x : X) → Ok x ≡ unless f answer
     → (f ≡ None) × (Ok x ≡ answer)
 unless_ok None answer x e = (refl, e)
-unless_ok (Some f) answer x e = absurd (clash (cc))
+unless_ok (Some f) answer x e = cc
 
 ok_if : {X : Type 0} (b : Bool) (x y : X) (f : Refusal) → Ok x ≡ cond b (Ok y) (Err f) → (b ≡ true) × (x ≡ y)
 ok_if true x y f e = (refl, cc)
-ok_if false x y f e = absurd (clash (cc))
+ok_if false x y f e = cc
 
 counted_ok : (ls : List Lexeme) (n : ℕ) → Ok n ≡ lexeme_count ls → (length ls ≤ 2048) × (n ≡ length ls)
 counted_ok ls n e =
@@ -39,8 +39,8 @@ counted_ok ls n e =
 
 clean_ending : (e : Ending) → ending_fault e ≡ None → e ≡ complete
 clean_ending complete clean = refl
-clean_ending (unexpected p) clean = absurd (clash (cc))
-clean_ending (unclosed p) clean = absurd (clash (cc))
+clean_ending (unexpected p) clean = cc
+clean_ending (unclosed p) clean = cc
 
 whole : (last : Lexeme) (ls : List Lexeme) (e : Ending) → first_fault last ls e ≡ None → e ≡ complete
 whole last [] e clean = clean_ending e clean

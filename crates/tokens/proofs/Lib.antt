@@ -1,4 +1,3 @@
-pub mod Codes
 pub mod Fronts
 pub mod Comments
 pub mod Numbers

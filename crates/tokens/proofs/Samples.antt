@@ -1,16 +1,15 @@
 -- The lexemes of some small sources.
 use Rattle.std.proofs.Common.{◌≡◌, ℕ, ◌+◌, ◌<◌, true, List, [], ◌∷◌, length, get_or, take, codes, sym, refl, ap, ◌∙◌, subst, arith, length-append}
+use Rattle.std.proofs.lemmas.List.Elements.{All-from_recursion}
 use Rattle.std.specs.List.{prefix_len, AllByRecursion}
-use Rattle.std.proofs.ByRecursion.{All-weaker}
 use Rattle.tokens.specs.declared.token.Mark.{Mark}
 use Rattle.tokens.specs.declared.token.Mark.TheVariants.{Star}
 use Rattle.tokens.specs.Tokens.{mark, name}
 use Rattle.tokens.specs.Lexemes.{letter, spelling, Run, reserved, letters, Front, Longest, Closed, comment, Lexeme, Ending, unclosed, Lexed, finished, gap, lexeme, unclosed_comment}
 use Rattle.tokens.specs.Reply.{Samples}
 use Rattle.tokens.specs.Scanning.{keywords, doubles}
-use Rattle.tokens.proofs.Fronts.{clash}
 use Rattle.tokens.proofs.Comments.{long_enough, mark_body}
-use Rattle.tokens.proofs.Reserved.{all_both, keyword_lengths, double_lengths}
+use Rattle.tokens.proofs.Reserved.{weaker, all_both, keyword_lengths, double_lengths}
 use Rattle.tokens.proofs.Texts.{first_byte, Absent, no_mark, word_longest, single_longest}
 
 half_open : Lexed 0 (codes "/*/") [] (unclosed 0)
@@ -20,16 +19,16 @@ half_open = unclosed_comment none
     none x f c =
         let long = (long_enough x c).1 in
         let short = ap length f.1 ∙ length-append x f.0 in
-        clash (omega arith)
+        omega arith
 
 -- a name of one letter, before the lexemes of the rest
 one_letter : (p b : ℕ) (r : List ℕ) → letter b ≡ true → prefix_len letter (b ∷ r) ≡ 1 → {ls : List Lexeme} {e : Ending}
     → Lexed (p + 1) r ls e → Lexed p (b ∷ r) (record { place = p; text = b ∷ []; token = name p (b ∷ []) } ∷ ls) e
 one_letter p b r is alone d =
-    let run : Run letter (b ∷ []) = (omega arith, (is, tt)) in
+    let run : Run letter (b ∷ []) = (omega arith, All-from_recursion (λ c. letter c ≡ true) (b ∷ []) (is, tt)) in
     let short : (m : Mark) → 1 < length (spelling m) → b ∷ [] ≡ spelling m → ⊥ =
-    λ m long e. let n = ap length e in clash (omega arith) in
-    let none = All-weaker (λ m. 1 < length (spelling m)) (λ m. b ∷ [] ≡ spelling m → ⊥) short keywords keyword_lengths in
+    λ m long e. let n = ap length e in omega arith in
+    let none = weaker short keywords keyword_lengths in
     let longest = subst (λ n. Longest p (take n (b ∷ r)) (b ∷ r)) alone (word_longest p (b ∷ r) is) in
     lexeme {x = b ∷ []} {r = r} (letters run (no_mark (b ∷ []) run none)) longest d
 

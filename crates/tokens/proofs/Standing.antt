@@ -1,14 +1,21 @@
 -- What stands at the front of some bytes.
-use Rattle.std.proofs.Common.{◌≡◌, ℕ, ◌<◌, true, false, List, [], ◌∷◌, ◌++◌, length, get_or, take, codes, sym, ap, ◌∙◌, subst, arith}
-use Rattle.std.specs.List.{prefix_len, AllByRecursion}
-use Rattle.tokens.specs.declared.bytes.Class.TheVariants.{Other}
+use Rattle.std.proofs.Common.{◌≡◌, ℕ, ◌<◌, true, false, List, [], ◌∷◌, ◌++◌, length, get_or, take, codes, Some, None, sym, refl, ap, ◌∙◌, subst, inl, inr, arith, Bor}
+use Rattle.std.specs.List.{prefix_len, AllByRecursion, AllPass}
+use Rattle.std.proofs.lemmas.Bool.{lt-ltb, le-ltb}
+use Rattle.tokens.specs.Reply.{too_large}
+use Rattle.refusal.specs.declared.Reason.TheVariants.{NumberTooLarge, UnexpectedByte}
+use Rattle.refusal.specs.Faults.{refusal}
+use Rattle.tokens.specs.declared.bytes.Class.TheVariants.{Letter, Digit, Other}
 use Rattle.tokens.specs.declared.token.Mark.{Mark}
-use Rattle.tokens.specs.Tokens.{Tok, mark, number, name}
+use Rattle.tokens.specs.declared.token.Token.{Token}
+use Rattle.tokens.specs.declared.token.Token.TheVariants as code
+use Rattle.tokens.specs.Tokens.{Tok, tok, mark, number, name}
 use Rattle.tokens.specs.Lexemes.{letter, digit, white, spelling, decimal, Run, Spells, reserved, digits, letters, Front, Longest, blank, comment, Lexed, unclosed, unclosed_comment, unexpected, unexpected_byte}
-use Rattle.tokens.specs.Scanning.{class, keywords, doubles, singles, Skips, Leads}
+use Rattle.tokens.specs.Scanning.{class, keywords, doubles, singles, limited, WordToken, Symbol, Skips, Leads, Fails, over_limit, stray_byte}
+use Rattle.std.proofs.lemmas.Slice.{first_rest}
 use Rattle.tokens.proofs.Comments.{Ends, Unclosed}
-use Rattle.tokens.proofs.Reserved.{all_both, single_lengths}
-use Rattle.tokens.proofs.Texts.{is_run, word_longest, number_longest, no_mark, Absent, no_text, double_longest, single_longest}
+use Rattle.tokens.proofs.Numbers.{limited_some, limited_none}
+use Rattle.tokens.proofs.Texts.{class_letter, class_digit, class_not_white, is_run, word_longest, number_longest, no_mark, Absent, no_text, double_longest, single_longest}
 
 pub spelt_mark : (p : ℕ) (x : List ℕ) (m : Mark) → x ≡ spelling m → Spells p x (mark p m)
 spelt_mark p x m e = subst (λ y. Spells p y (mark p m)) (sym e) reserved
@@ -45,6 +52,38 @@ module _ (p : ℕ) (bs x r : List ℕ) (some : 0 < length bs) (whole : bs ≡ x 
       longest = subst (λ y. Longest p y bs) (sym run) (number_longest p bs starts);
     }
 
+module _ (p : ℕ) (bs x r : List ℕ) (some : 0 < length bs) (whole : bs ≡ x ++ r) where
+  module _ (starts : Letter ≡ class (get_or bs 0 0)) (run : x ≡ take (prefix_len letter bs) bs) where
+    first_letter : letter (get_or bs 0 0) ≡ true
+    first_letter = class_letter (get_or bs 0 0) (sym starts)
+
+    pub word_stands : (t : Token) → WordToken p x t → Leads p bs r (tok t) × (too_large (tok t) ≡ false)
+    word_stands (code.Mark q m) (place, spelt) =
+        (subst (λ n. Leads p bs r (mark n m)) (sym place) (keyword_leads p bs x r some whole first_letter run m spelt), refl)
+    word_stands (code.Name q v) (place, is, none) = (
+      subst (λ n. Leads p bs r (name n v.now)) (sym place)
+          (subst (λ y. Leads p bs r (name p y)) (sym is) (name_leads p bs x r some whole first_letter run none)),
+      refl,
+    )
+    word_stands (code.Number q n) impossible = absurd impossible
+
+  module _ (starts : Digit ≡ class (get_or bs 0 0)) (run : x ≡ take (prefix_len digit bs) bs) where
+    first_digit : digit (get_or bs 0 0) ≡ true
+    first_digit = class_digit (get_or bs 0 0) (sym starts)
+
+    pub number_digits : AllPass digit x
+    number_digits = (all_digits p bs x r some whole first_digit run).1
+
+    pub number_stands : (n : ℕ) → Some n ≡ limited (decimal x) → Leads p bs r (number p n) × (too_large (number p n) ≡ false)
+    number_stands n e =
+        let fits = limited_some (decimal x) n e in
+        (number_leads p bs x r some whole first_digit run n fits.1, le-ltb 2147483647 n (omega (arith, fits.0, fits.1)))
+
+    pub number_fails : None ≡ limited (decimal x) → Fails p bs (refusal NumberTooLarge p)
+    number_fails e =
+        over_limit (number_leads p bs x r some whole first_digit run (decimal x) refl)
+        (lt-ltb 2147483647 (decimal x) (limited_none (decimal x) e))
+
 -- ---- gaps
 
 pub skips_blank : {bs r : List ℕ} (b : ℕ) → bs ≡ b ∷ r → white b ≡ true → Skips bs r
@@ -60,11 +99,6 @@ module _ {bs body : List ℕ} (opens : bs ≡ codes "/*" ++ body) where
 
 -- ---- symbols
 
-alone : (b : ℕ) (r x : List ℕ) → length x ≡ 1 → Front x (b ∷ r) → b ∷ [] ≡ x
-alone b r [] long f = absurd (omega arith)
-alone b r (a ∷ []) long f = cc f.1
-alone b r (a ∷ c ∷ x) long f = absurd (omega arith)
-
 module _ (p : ℕ) (bs : List ℕ) (k : class (get_or bs 0 0) ≡ Other) where
   module _ (clear : Front (codes "/*") bs → ⊥) (x : List ℕ) {r : List ℕ} (m : Mark) (spelt : x ≡ spelling m)
       (whole : bs ≡ x ++ r) where
@@ -79,13 +113,17 @@ module _ (p : ℕ) (bs : List ℕ) (k : class (get_or bs 0 0) ≡ Other) where
     single_leads two long = mark_leads (single_longest p bs k clear two m (ap length (sym spelt) ∙ long))
 
   module _ (b : ℕ) (r : List ℕ) (e : bs ≡ b ∷ r) where
-    pub no_singles : AllByRecursion (λ m. b ∷ [] ≡ spelling m → ⊥) singles → AllByRecursion (Absent bs) singles
-    no_singles none =
-        let absent : (m : Mark) → (b ∷ [] ≡ spelling m → ⊥) → length (spelling m) ≡ 1 → Absent bs m =
-        λ m differs long f. differs (alone b r (spelling m) long (subst (Front (spelling m)) e f)) in
-        all_both absent singles none single_lengths
-
     pub no_token : white b ≡ false → AllByRecursion (Absent bs) doubles → AllByRecursion (Absent bs) singles → Lexed p bs [] (unexpected p)
     no_token w two one =
         let none = subst (λ y. (x : List ℕ) (t : Tok) → Spells p x t → Front x y → ⊥) e (no_text p bs k two one) in
         subst (λ y. Lexed p y [] (unexpected p)) (sym e) (unexpected_byte w none)
+
+module _ (p : ℕ) (bs : List ℕ) (some : 0 < length bs) (starts : Other ≡ class (get_or bs 0 0)) where
+  pub symbol_leads : (Front (codes "/*") bs → ⊥) → (m : Mark) (r : Bor (List ℕ)) → Symbol bs (Some (m, r)) → Leads p bs r.now (mark p m)
+  symbol_leads clear m r (whole, inl two) = double_leads p bs (sym starts) clear (spelling m) m refl whole two
+  symbol_leads clear m r (whole, inr (one, none)) = single_leads p bs (sym starts) clear (spelling m) m refl whole none one
+
+  pub no_symbol : Symbol bs None → Fails p bs (refusal UnexpectedByte p)
+  no_symbol (two, one) =
+      let b = get_or bs 0 0 in
+      stray_byte (no_token p bs (sym starts) b _ (first_rest bs 0 some) (class_not_white b (sym starts)) two one)

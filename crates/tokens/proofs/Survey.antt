@@ -1,20 +1,24 @@
 -- The pass that counts the lexemes of a source and finds its first fault.
-use Rattle.std.proofs.Common.{◌≡◌, ℕ, ◌+◌, ◌-◌, ◌≤◌, Bool, true, false, cond, ◌&&◌, ◌||◌, eqb, List, [], ◌∷◌, ◌++◌, map, length, get_or, Some, None, Ok, Err, Result, sym, refl, ap, ◌∙◌, subst, inl, inr, append_assoc, append-nil, arith, length-append}
-use native.Mathlib.Nat.{sub_self}
-use Rattle.std.proofs.lemmas.List.{map_push, length_push, length-map, get_or_push, get_or_past, get_or_append_left}
-use Rattle.std.proofs.lemmas.Bool.{true≢false, cases_Bool, cases_order, cond-true, cond-false, eq-eqb, ne_eqb}
+use Rattle.std.proofs.Common.{◌≡◌, ℕ, zero, suc, ◌+◌, ◌-◌, ◌≤◌, Bool, true, false, cond, ◌&&◌, ◌||◌, eqb, List, [], ◌∷◌, ◌++◌, map, length, get_or, Some, None, Ok, Err, Result, sym, refl, ap, ◌∙◌, subst, append_assoc, append-nil, arith, length-append}
+use Rattle.std.specs.Prelude.{◌==◌, if◌then◌else◌, option_map, slice_get, slice_index}
+use Rattle.std.proofs.Math.Nat.{sub_self}
+use Rattle.std.proofs.lemmas.List.{map_push, length_push, length-map}
+use Rattle.std.proofs.lemmas.Bool.Decides.{nat_tests}
+use Rattle.std.proofs.lemmas.Option.{gets}
+use Rattle.std.proofs.lemmas.Grind.{common_steps}
+use Rattle.std.proofs.lemmas.Bool.{cases_Bool, cond-true, cond-false}
 use Rattle.refusal.specs.declared.Refusal.{Refusal}
-use Rattle.refusal.specs.declared.Reason.TheVariants.{NumberTooLarge, MissingSeparator}
+use Rattle.refusal.specs.declared.Reason.TheVariants.{NumberTooLarge, MissingSeparator, TooManyTokens}
 use Rattle.tokens.specs.declared.bytes.Class.{Class}
-use Rattle.tokens.specs.declared.bytes.Class.TheVariants.{Letter, Digit, White, Other}
+use Rattle.tokens.specs.declared.bytes.Class.TheVariants.{Other}
 use Rattle.tokens.specs.declared.lexer.Seen.{Seen}
 use Rattle.tokens.specs.Tokens.{Tok}
-use Rattle.tokens.specs.Lexemes.{letter, digit, white, Lexeme, Ending, Lexed}
-use Rattle.tokens.specs.Reply.{refusal, too_large, unseparated, fault, ending_fault, or_else, first_fault, start, unless, count_reply, lexeme_count}
-use Rattle.tokens.specs.Scanning.{class, Skips, Leads}
-use Rattle.tokens.specs.Survey.{is_letter, is_digit, apart, joined, join, Surveyed}
-use Rattle.tokens.proofs.Fronts.{clash}
-use Rattle.tokens.proofs.Texts.{letter_class, digit_class, some_bytes, first_byte}
+use Rattle.tokens.specs.Lexemes.{letter, digit, Lexeme, Ending, unclosed, unexpected, Lexed}
+use Rattle.refusal.specs.Faults.{refusal, or_else, unless}
+use Rattle.tokens.specs.Reply.{too_large, unseparated, fault, ending_fault, first_fault, start, count_reply, lexeme_count}
+use Rattle.tokens.specs.Scanning.{class, Skips, Leads, Fails, over_limit, open_comment, stray_byte}
+use Rattle.tokens.specs.Survey.{apart, joined, join, counted, Surveyed}
+use Rattle.tokens.proofs.Texts.{some_bytes, first_byte}
 use Rattle.tokens.proofs.Total.{lexeme_of, after_gap, after_lexeme, skips_shorter, leads_shorter, total}
 
 -- ---- the lexemes before a place
@@ -69,39 +73,8 @@ module _ {source rest : List ℕ} {p : ℕ} {done : List Lexeme} {last : Lexeme}
 
 -- ---- a word and a number that touch
 
-or_none : (x : Bool) → x ≡ (x || false)
-or_none true = refl
-or_none false = refl
-
-by_tests : (l d w : Bool) (k : Class) → (l ≡ true → d ≡ false)
-    → apart (cond l Letter (cond d Digit (cond w White Other))) k ≡ ((d && is_letter k) || (l && is_digit k))
-by_tests true true w k one = absurd (true≢false (one refl))
-by_tests true false w k one = refl
-by_tests false true w k one = or_none (is_letter k)
-by_tests false false true k one = refl
-by_tests false false false k one = refl
-
-letter_test : (l d w : Bool) → is_letter (cond l Letter (cond d Digit (cond w White Other))) ≡ l
-letter_test true d w = refl
-letter_test false true w = refl
-letter_test false false true = refl
-letter_test false false false = refl
-
-digit_test : (l d w : Bool) → (l ≡ true → d ≡ false) → is_digit (cond l Letter (cond d Digit (cond w White Other))) ≡ d
-digit_test true d w one = sym (one refl)
-digit_test false true w one = refl
-digit_test false false true one = refl
-digit_test false false false one = refl
-
-one_class : (b : ℕ) → letter b ≡ true → digit b ≡ false
-one_class b e =
-    elim (cases_Bool (digit b)) [ inl d ↦ absurd (clash (cc (letter_class b e, digit_class b d))) | inr none ↦ none ]
-
 apart_is : (a b : ℕ) → apart (class a) (class b) ≡ ((digit a && letter b) || (letter a && digit b))
-apart_is a b =
-    by_tests (letter a) (digit a) (white a) (class b) (one_class a)
-    ∙ ap (λ z. (digit a && z) || (letter a && is_digit (class b))) (letter_test (letter b) (digit b) (white b))
-    ∙ ap (λ z. (digit a && letter b) || (letter a && z)) (digit_test (letter b) (digit b) (white b) (one_class b))
+apart_is a b = grind (arith, nat_tests, cases_Bool)
 
 -- ---- what the pass keeps of the lexemes
 
@@ -109,21 +82,20 @@ record Sees (done : List Lexeme) (last : Lexeme) (seen : Seen) : Type 0 where
   pub count : seen.count ≡ length done
   pub end : seen.end ≡ last.place + length last.text
   pub first : seen.class ≡ class (get_or last.text 0 0)
-  pub surplus : seen.surplus ≡ get_or (map (λ l. l.place) done) 2048 0
+  pub surplus : seen.surplus ≡ slice_get (map (λ l. l.place) done) 2048
 
-surplus_more : (places : List ℕ) (p : ℕ)
-    → get_or (places ++ p ∷ []) 2048 0 ≡ cond (eqb (length places) 2048) p (get_or places 2048 0)
-surplus_more places p =
-    elim (cases_order (length places) 2048) [
-      | inl e ↦ get_or_push places p 0 2048 e ∙ sym (cond-true _ p (get_or places 2048 0) (eq-eqb (length places) 2048 e))
-      | inr (inl less) ↦
-          let long = length_push places p in
-          get_or_past (places ++ p ∷ []) 2048 0 (omega arith) ∙ sym (get_or_past places 2048 0 (omega arith))
-          ∙ sym (cond-false _ p (get_or places 2048 0) (ne_eqb (length places) 2048 (λ e. omega arith)))
-      | inr (inr more) ↦
-          get_or_append_left places (p ∷ []) 0 2048 more
-          ∙ sym (cond-false _ p (get_or places 2048 0) (ne_eqb (length places) 2048 (λ e. omega arith)))
-    ]
+get_push : {X : Type 0} (xs : List X) (x : X) (n : ℕ)
+    → slice_get (xs ++ x ∷ []) n ≡ (if length xs == n then Some x else slice_get xs n)
+get_push [] x zero = refl
+get_push [] x (suc n) = grind (arith, nat_tests)
+get_push (y ∷ xs) x zero = grind (arith, nat_tests)
+get_push (y ∷ xs) x (suc n) = grind (arith, nat_tests, get_push xs x n)
+
+-- the count of lexemes, by the place of the first one too many
+count_is : (places : List ℕ)
+    → unless (option_map (refusal TooManyTokens) (slice_get places 2048)) (Ok (length places))
+    ≡ count_reply (length places) (slice_index places 2048)
+count_is places = grind (arith, common_steps, nat_tests, gets)
 
 module _ {done : List Lexeme} {last : Lexeme} {seen : Seen} (s : Sees done last seen) (here : Lexeme) where
   abbrev next : Class
@@ -141,10 +113,10 @@ module _ {done : List Lexeme} {last : Lexeme} {seen : Seen} (s : Sees done last 
         end = refl;
         first = refl;
         surplus = sym (
-            ap (λ xs. get_or xs 2048 0) (map_push place_of done here)
-            ∙ surplus_more places here.place
-            ∙ ap (λ n. cond (eqb n 2048) here.place (get_or places 2048 0)) long
-            ∙ ap (cond (eqb seen.count 2048) here.place) (sym s.surplus)
+            ap (λ xs. slice_get xs 2048) (map_push place_of done here)
+            ∙ get_push places here.place 2048
+            ∙ ap (λ n. if n == 2048 then Some here.place else slice_get places 2048) long
+            ∙ ap (λ o. if seen.count == 2048 then Some here.place else o) (sym s.surplus)
             );
       }
 
@@ -169,7 +141,7 @@ pub record Surveying (source rest : List ℕ) (seen : Seen) : Type 0 where
   sees : Sees done last seen
   pub room : seen.count + length rest ≤ length source
 
-pub surveying_start : (source : List ℕ) → Surveying source source (record { count = 0; end = 0; class = Other; surplus = 0 })
+pub surveying_start : (source : List ℕ) → Surveying source source (record { count = 0; end = 0; class = Other; surplus = None })
 surveying_start source = record {
   done = [];
   last = start;
@@ -184,23 +156,28 @@ pub later : (source : List ℕ) {rest : List ℕ} (x r : List ℕ) → rest ≡ 
 later source x r whole h = let n = ap length whole ∙ length-append x r in omega arith
 
 ok_cond : {A E : Type 0} (b : Bool) (f : E) (x y : A) → Ok x ≡ cond b (Err f) (Ok y) → (b ≡ false) × (x ≡ y)
-ok_cond true f x y e = absurd (clash (cc))
+ok_cond true f x y e = cc
 ok_cond false f x y e = (refl, cc)
 
 err_cond : {A E : Type 0} (b : Bool) (f g : E) (y : A) → Err g ≡ cond b (Err f) (Ok y) → (b ≡ true) × (g ≡ f)
 err_cond true f g y e = (refl, cc)
-err_cond false f g y e = absurd (clash (cc))
+err_cond false f g y e = cc
 
 module _ {source rest : List ℕ} {seen : Seen} (v : Surveying source rest seen) where
   abbrev place : ℕ
   place = length source - length rest
 
   pub survey_done : (e : Ending) → Lexed place rest [] e → (reply : Result ℕ Refusal)
-      → reply ≡ unless (ending_fault e) (count_reply seen.count seen.surplus) → Surveyed source reply
+      → reply ≡ unless (ending_fault e) (counted seen) → Surveyed source reply
   survey_done e d reply is =
-      let answer = λ (n surplus : ℕ). unless (ending_fault e) (count_reply n surplus) in
-      survey_ends v.reached e d reply
-      (is ∙ ap (λ n. answer n seen.surplus) v.sees.count ∙ ap (answer (length v.done)) v.sees.surplus)
+      let places = map (λ l. l.place) v.done in
+      let long : seen.count ≡ length places = v.sees.count ∙ sym (length-map v.done (λ l. l.place)) in
+      let same : counted seen ≡ lexeme_count v.done =
+      ap (λ n. unless (option_map (refusal TooManyTokens) seen.surplus) (Ok n)) long
+      ∙ ap (λ o. unless (option_map (refusal TooManyTokens) o) (Ok (length places))) v.sees.surplus
+      ∙ count_is places
+      ∙ ap (λ n. count_reply n (slice_index places 2048)) (length-map v.done (λ l. l.place)) in
+      survey_ends v.reached e d reply (is ∙ ap (unless (ending_fault e)) same)
 
   pub surveying_gap : {r : List ℕ} → Skips rest r → Surveying source r seen
   surveying_gap {r} s =
@@ -261,5 +238,10 @@ module _ {source rest : List ℕ} {seen : Seen} (v : Surveying source rest seen)
           let (yes-touches, same) = err_cond touches _ f _ (e ∙ ap reply is) in
           survey_stops v.reached l f (fault_here small ∙ cond-true _ _ _ yes-touches ∙ ap Some (sym same))
 
-    pub stops_large : too_large t ≡ true → Surveyed source (Err (refusal NumberTooLarge place))
+    stops_large : too_large t ≡ true → Surveyed source (Err (refusal NumberTooLarge place))
     stops_large large = survey_stops v.reached l _ (cond-true _ _ _ large)
+
+  pub survey_fails : (f : Refusal) → Fails place rest f → Surveyed source (Err f)
+  survey_fails _ (over_limit l big) = stops_large l big
+  survey_fails f (open_comment d) = survey_done (unclosed place) d (Err f) refl
+  survey_fails f (stray_byte d) = survey_done (unexpected place) d (Err f) refl

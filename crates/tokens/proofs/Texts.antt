@@ -1,8 +1,8 @@
 -- Which texts some bytes begin with, by their first byte.
 use Rattle.std.proofs.Common.{◌≡◌, ℕ, ◌<◌, ◌≤◌, Bool, true, false, cond, List, [], ◌∷◌, ◌++◌, length, get_or, take, codes, sym, refl, ap, ◌∙◌, subst, inl, inr, one-add, arith}
-use Rattle.std.specs.List.{prefix_len, AllByRecursion}
-use Rattle.std.proofs.ByRecursion.{All-weaker}
+use Rattle.std.specs.List.{prefix_len, AllByRecursion, AllPass}
 use Rattle.std.proofs.lemmas.List.{get_or_append_left, length-take-le}
+use Rattle.std.proofs.lemmas.List.Elements.{All-from_recursion, recursion_from_All}
 use Rattle.std.proofs.lemmas.List.Sums.{prefix_len-le-length}
 use Rattle.std.proofs.lemmas.Bool.{cases_Bool}
 use Rattle.std.proofs.lemmas.Bool.Decides.{nat_tests}
@@ -12,8 +12,7 @@ use Rattle.tokens.specs.declared.token.Mark.{Mark}
 use Rattle.tokens.specs.Tokens.{Tok}
 use Rattle.tokens.specs.Lexemes.{letter, digit, white, spelling, Run, Spells, reserved, digits, letters, Front, Longest}
 use Rattle.tokens.specs.Scanning.{class, keywords, doubles, singles}
-use Rattle.tokens.proofs.Fronts.{clash}
-use Rattle.tokens.proofs.Reserved.{every, all_both, first, keyword_runs, double_firsts, single_firsts, double_lengths, single_lengths}
+use Rattle.tokens.proofs.Reserved.{weaker, every, all_both, first, keyword_runs, double_firsts, single_firsts, double_lengths, single_lengths}
 
 -- ---- classes
 
@@ -41,8 +40,8 @@ class_not_white b e = grind (arith, cases_Bool)
 -- ---- the texts that begin with a byte of each class
 
 abbrev Sorted : Class → List ℕ → Type 0
-Sorted Letter y = AllByRecursion (λ b. letter b ≡ true) y
-Sorted Digit y = AllByRecursion (λ b. digit b ≡ true) y
+Sorted Letter y = AllPass letter y
+Sorted Digit y = AllPass digit y
 Sorted White y = ⊥
 Sorted Other y = (m : Mark) × (y ≡ spelling m)
 
@@ -50,10 +49,10 @@ abbrev Sort : List ℕ → Type 0
 Sort y = (0 < length y) × Sorted (class (get_or y 0 0)) y
 
 run_sort : (test : ℕ → Bool) (k : Class) → ((b : ℕ) → test b ≡ true → class b ≡ k)
-    → ((y : List ℕ) → AllByRecursion (λ b. test b ≡ true) y → Sorted k y) → (y : List ℕ) → Run test y → Sort y
+    → ((y : List ℕ) → AllPass test y → Sorted k y) → (y : List ℕ) → Run test y → Sort y
 run_sort test k in_class sorted [] run = absurd (omega (arith, run.0))
 run_sort test k in_class sorted (b ∷ y) run =
-    (run.0, subst (λ c. Sorted c (b ∷ y)) (sym (in_class b run.1.0)) (sorted (b ∷ y) run.1))
+    (run.0, subst (λ c. Sorted c (b ∷ y)) (sym (in_class b (run.1 0 0 (omega arith)))) (sorted (b ∷ y) run.1))
 
 word_sort : (y : List ℕ) → Run letter y → Sort y
 word_sort = run_sort letter Letter letter_class (λ y all. all)
@@ -64,7 +63,7 @@ symbol_sort n some m e l = (omega arith, subst (λ c. Sorted c (spelling m)) (sy
 mark_sort : (m : Mark) → Sort (spelling m)
 mark_sort =
     every (λ m. Sort (spelling m))
-    (All-weaker (λ m. Run letter (spelling m)) (λ m. Sort (spelling m)) (λ m. word_sort (spelling m)) keywords keyword_runs)
+    (weaker (λ m. word_sort (spelling m)) keywords keyword_runs)
     (all_both (symbol_sort 2 (omega arith)) doubles double_firsts double_lengths)
     (all_both (symbol_sort 1 (omega arith)) singles single_firsts single_lengths)
 
@@ -119,14 +118,14 @@ module _ (test : ℕ → Bool) (p : ℕ) (bs : List ℕ) where
   length_run = length-take-le (prefix_len test bs) bs (prefix_len-le-length test bs)
 
   pub is_run : 0 < length bs → test (get_or bs 0 0) ≡ true → Run test run
-  is_run some e = (let n = length_run in let m = leading_some test bs some e in omega arith, leading_all test bs)
+  is_run some e = (let n = length_run in let m = leading_some test bs some e in omega arith, All-from_recursion (λ b. test b ≡ true) run (leading_all test bs))
 
   run_longest : (Front (codes "/*") bs → ⊥)
-      → ((y : List ℕ) (t : Tok) → Spells p y t → Front y bs → AllByRecursion (λ b. test b ≡ true) y) → Longest p run bs
+      → ((y : List ℕ) (t : Tok) → Spells p y t → Front y bs → AllPass test y) → Longest p run bs
   run_longest clear same =
       let most : (y : List ℕ) (t : Tok) → Spells p y t → Front y bs → length y ≤ length run =
       λ y t s f.
-      let n = leading_most test y f.0 (same y t s f) in
+      let n = leading_most test y f.0 (recursion_from_All (λ b. test b ≡ true) y (same y t s f)) in
       let m = ap (prefix_len test) f.1 in
       omega (arith, length_run) in
       record { no_comment = clear; no_longer = most }
@@ -135,26 +134,26 @@ module _ (p : ℕ) (bs : List ℕ) where
   pub word_longest : letter (get_or bs 0 0) ≡ true → Longest p (run letter p bs) bs
   word_longest e =
       let k = letter_class (get_or bs 0 0) e in
-      run_longest letter p bs (no_comment p bs Letter k (λ c. clash (cc))) (at_front p bs Letter k)
+      run_longest letter p bs (no_comment p bs Letter k (λ c. cc)) (at_front p bs Letter k)
 
   pub number_longest : digit (get_or bs 0 0) ≡ true → Longest p (run digit p bs) bs
   number_longest e =
       let k = digit_class (get_or bs 0 0) e in
-      run_longest digit p bs (no_comment p bs Digit k (λ c. clash (cc))) (at_front p bs Digit k)
+      run_longest digit p bs (no_comment p bs Digit k (λ c. cc)) (at_front p bs Digit k)
 
 pub word_first : (x : List ℕ) → Run letter x → class (get_or x 0 0) ≡ Letter
 word_first [] run = absurd (omega (arith, run.0))
-word_first (b ∷ x) run = letter_class b run.1.0
+word_first (b ∷ x) run = letter_class b (run.1 0 0 (omega arith))
 
 -- a word that is no keyword is no mark at all
 pub no_mark : (x : List ℕ) → Run letter x → AllByRecursion (λ m. x ≡ spelling m → ⊥) keywords → (m : Mark) → x ≡ spelling m → ⊥
 no_mark x run none =
     let apart : (m : Mark) → class (first m) ≡ Other → x ≡ spelling m → ⊥ =
-    λ m o e. clash (cc (word_first x run, ap (λ y. class (get_or y 0 0)) e)) in
+    λ m o e. cc (word_first x run, ap (λ y. class (get_or y 0 0)) e) in
     let differs : Mark → Type 0 = λ m. x ≡ spelling m → ⊥ in
     every differs none
-    (All-weaker (λ m. class (first m) ≡ Other) differs apart doubles double_firsts)
-    (All-weaker (λ m. class (first m) ≡ Other) differs apart singles single_firsts)
+    (weaker apart doubles double_firsts)
+    (weaker apart singles single_firsts)
 
 -- ---- symbols
 
@@ -166,20 +165,20 @@ abbrev pub Absent : List ℕ → Mark → Type 0
 Absent bs m = Front (spelling m) bs → ⊥
 
 short_by_length : (n l : ℕ) (bs : List ℕ) (ms : List Mark) → l ≤ n → AllByRecursion (λ m. length (spelling m) ≡ l) ms → AllByRecursion (Short n bs) ms
-short_by_length n l bs ms h = All-weaker (λ m. length (spelling m) ≡ l) (Short n bs) (λ m e f. omega arith) ms
+short_by_length n l bs ms h = weaker (λ m e f. omega arith) ms
 
 short_if_absent : (n : ℕ) (bs : List ℕ) (ms : List Mark) → AllByRecursion (Absent bs) ms → AllByRecursion (Short n bs) ms
-short_if_absent n bs = All-weaker (Absent bs) (Short n bs) (λ m none f. absurd (none f))
+short_if_absent n bs = weaker (λ m none f. absurd (none f))
 
 module _ (p : ℕ) (bs : List ℕ) (k : class (get_or bs 0 0) ≡ Other) where
   no_word : (m : Mark) → Run letter (spelling m) → Absent bs m
-  no_word m run f = clash (cc (k, word_first (spelling m) run, ap class (first_byte bs (spelling m) run.0 f)))
+  no_word m run f = cc (k, word_first (spelling m) run, ap class (first_byte bs (spelling m) run.0 f))
 
   short : (n : ℕ) → AllByRecursion (Short n bs) doubles → AllByRecursion (Short n bs) singles
       → (y : List ℕ) (t : Tok) → Spells p y t → Front y bs → length y ≤ n
   short n two one y t s f =
       let (m, e) = at_front p bs Other k y t s f in
-      let none = All-weaker (λ m. Run letter (spelling m)) (Absent bs) no_word keywords keyword_runs in
+      let none = weaker no_word keywords keyword_runs in
       let fits = every (Short n bs) (short_if_absent n bs keywords none) two one m (subst (λ x. Front x bs) e f) in
       let same = ap length e in
       omega arith
@@ -188,7 +187,7 @@ module _ (p : ℕ) (bs : List ℕ) (k : class (get_or bs 0 0) ≡ Other) where
   no_text two one y t s f =
       let none = short 0 (short_if_absent 0 bs doubles two) (short_if_absent 0 bs singles one) y t s f in
       let some = some_bytes s in
-      clash (omega arith)
+      omega arith
 
   module _ (clear : Front (codes "/*") bs → ⊥) where
     pub double_longest : (m : Mark) → length (spelling m) ≡ 2 → Longest p (spelling m) bs

@@ -1,6 +1,5 @@
 -- A source has only one list of lexemes.
 use Rattle.std.proofs.Common.{◌≡◌, ℕ, ◌+◌, ◌<◌, true, false, cond, ◌&&◌, eqb, List, [], ◌∷◌, ◌++◌, length, get_or, drop, codes, sym, refl, ap, ◌∙◌, subst, inl, inr, append-nil, arith, length-append}
-use Rattle.std.proofs.ByRecursion.{All-weaker}
 use Rattle.std.proofs.lemmas.List.{nil_from_length}
 use Rattle.std.proofs.lemmas.Bool.{cases_Bool, and_parts, eqb-true}
 use Rattle.tokens.specs.declared.bytes.Class.TheVariants.{Digit, Other}
@@ -10,9 +9,9 @@ use Rattle.tokens.specs.Tokens.{Tok, mark, number, name}
 use Rattle.tokens.specs.Lexemes.{letter, digit, white, spelling, decimal, Run, Spells, reserved, digits, letters, Front, Longest, Body, blank, comment, Lexeme, Ending, complete, unclosed, unexpected, Lexed, finished, gap, lexeme, unclosed_comment, unexpected_byte}
 use Rattle.tokens.specs.Reply.{UniqueLexemes}
 use Rattle.tokens.specs.Scanning.{class, keywords, doubles, singles, Leads}
-use Rattle.tokens.proofs.Fronts.{clash, longer, shorter, compared}
+use Rattle.tokens.proofs.Fronts.{longer, shorter, compared}
 use Rattle.tokens.proofs.Comments.{Unclosed}
-use Rattle.tokens.proofs.Reserved.{every, first, keyword_runs, double_firsts, single_firsts, same_spelling}
+use Rattle.tokens.proofs.Reserved.{weaker, every, first, keyword_runs, double_firsts, single_firsts, same_spelling}
 use Rattle.tokens.proofs.Total.{lexeme_of}
 use Rattle.tokens.proofs.Texts.{digit_class, word_first, some_bytes, not_white, first_byte}
 
@@ -53,23 +52,23 @@ same_bodies x r y v e a b =
 
 digit_first : (x : List ℕ) → Run digit x → class (get_or x 0 0) ≡ Digit
 digit_first [] run = absurd (omega (arith, run.0))
-digit_first (b ∷ x) run = digit_class b run.1.0
+digit_first (b ∷ x) run = digit_class b (run.1 0 0 (omega arith))
 
 no_digits : (m : Mark) → class (first m) ≡ Digit → ⊥
 no_digits =
     let not_digit : Mark → Type 0 = λ m. class (first m) ≡ Digit → ⊥ in
-    let symbol : (m : Mark) → class (first m) ≡ Other → not_digit m = λ m o d. clash (cc) in
-    let word : (m : Mark) → Run letter (spelling m) → not_digit m = λ m run d. clash (cc (word_first (spelling m) run)) in
+    let symbol : (m : Mark) → class (first m) ≡ Other → not_digit m = λ m o d. cc in
+    let word : (m : Mark) → Run letter (spelling m) → not_digit m = λ m run d. cc (word_first (spelling m) run) in
     every not_digit
-    (All-weaker (λ m. Run letter (spelling m)) not_digit word keywords keyword_runs)
-    (All-weaker (λ m. class (first m) ≡ Other) not_digit symbol doubles double_firsts)
-    (All-weaker (λ m. class (first m) ≡ Other) not_digit symbol singles single_firsts)
+    (weaker word keywords keyword_runs)
+    (weaker symbol doubles double_firsts)
+    (weaker symbol singles single_firsts)
 
 mark_number : (m : Mark) (x : List ℕ) → Run digit x → spelling m ≡ x → ⊥
 mark_number m x run e = no_digits m (ap (λ y. class (get_or y 0 0)) e ∙ digit_first x run)
 
 word_number : (x y : List ℕ) → Run letter x → Run digit y → x ≡ y → ⊥
-word_number x y word run e = clash (cc (word_first x word, digit_first y run, ap (λ z. class (get_or z 0 0)) e))
+word_number x y word run e = cc (word_first x word, digit_first y run, ap (λ z. class (get_or z 0 0)) e)
 
 same_token : {p : ℕ} {x y : List ℕ} {t u : Tok} → Spells p x t → Spells p y u → x ≡ y → t ≡ u
 same_token {p} (reserved {m}) (reserved {m = n}) e = ap (mark p) (same_spelling m n e)

@@ -1,6 +1,7 @@
 -- What the tokens of a source are.
-use Rattle.std.specs.Prelude.{◌≡◌, ℕ, ◌+◌, ◌-◌, ◌<◌, ◌≤◌, Bool, true, false, ◌&&◌, ◌||◌, List, [], ◌∷◌, ◌++◌, map, length, codes, ◌==◌, ◌≢◌, nat_le}
-use Rattle.std.specs.List.{AllByRecursion}
+use Rattle.std.specs.Prelude.{◌≡◌, ℕ, ◌+◌, ◌-◌, ◌<◌, ◌≤◌, Bool, true, false, ◌||◌, List, [], ◌∷◌, ◌++◌, map, length, codes, ◌==◌, ◌≢◌}
+use Rattle.std.specs.List.{AllPass}
+use Rattle.std.specs.Char.{is_ascii_alphabetic, is_ascii_digit}
 use Rattle.std.specs.Int.Digits.{number_from_digits}
 use Rattle.tokens.specs.declared.token.Mark.{Mark}
 use Rattle.tokens.specs.declared.token.Mark.TheVariants.{Else, If, Int, Return, Void, While, Plus, Minus, Star, Slash, Less, LessEqual, Greater, GreaterEqual, Equal, NotEqual, Assign, Semicolon, Comma, LeftParen, RightParen, LeftBracket, RightBracket, LeftBrace, RightBrace}
@@ -8,17 +9,13 @@ use Rattle.tokens.specs.Tokens.{Tok, mark, number, name}
 
 -- ---- bytes
 
--- from low to high
-abbrev pub within : ℕ → ℕ → ℕ → Bool
-within low high b = nat_le low b && nat_le b high
-
 -- a to z and A to Z
 abbrev pub letter : ℕ → Bool
-letter b = within 97 122 b || within 65 90 b
+letter b = is_ascii_alphabetic b
 
 -- 0 to 9
 abbrev pub digit : ℕ → Bool
-digit b = within 48 57 b
+digit b = is_ascii_digit b
 
 -- white space is blank, newline and tab
 abbrev pub white : ℕ → Bool
@@ -56,7 +53,7 @@ spelling RightBrace = codes "}"
 
 -- one byte or more, and each passes the test
 abbrev pub Run : (ℕ → Bool) → List ℕ → Type 0
-Run test x = (0 < length x) × AllByRecursion (λ b. test b ≡ true) x
+Run test x = (0 < length x) × AllPass test x
 
 -- the number that decimal digits write
 abbrev pub decimal : List ℕ → ℕ

@@ -1,17 +1,14 @@
 -- What the lexer answers.
-use Rattle.std.specs.Prelude.{◌≡◌, ℕ, ◌+◌, ◌≤◌, Bool, false, cond, ◌&&◌, ◌||◌, List, [], ◌∷◌, map, length, take, drop, Some, None, Ok, Err, codes, Option, Result, ◌==◌, nat_le, nat_lt, slice_index}
+use Rattle.std.specs.Prelude.{◌≡◌, ℕ, ◌+◌, ◌≤◌, Bool, false, if◌then◌else◌, ◌&&◌, ◌||◌, List, [], ◌∷◌, map, length, take, drop, Some, None, Ok, Err, codes, Option, Result, ◌==◌, nat_le, nat_lt, slice_index, ⊤}
 use Rattle.refusal.specs.declared.Refusal.{Refusal}
-use Rattle.refusal.specs.declared.Reason.{Reason}
 use Rattle.refusal.specs.declared.Reason.TheVariants.{SourceTooLong, UnexpectedByte, UnclosedComment, NumberTooLarge, MissingSeparator, TooManyTokens}
+use Rattle.refusal.specs.Faults.{refusal, unless, or_else}
 use Rattle.tokens.specs.declared.token.Mark.TheVariants.{Star}
 use Rattle.tokens.specs.declared.token.Token.{Token}
 use Rattle.tokens.specs.Tokens.{Tok, end, mark, number, name, tok}
 use Rattle.tokens.specs.Lexemes.{letter, digit, Lexeme, Ending, complete, unexpected, unclosed, Lexed}
 
 -- ---- faults
-
-abbrev pub refusal : Reason → ℕ → Refusal
-refusal reason place = record { reason = reason; place = place }
 
 -- a number of more than 31 bits
 abbrev pub too_large : Tok → Bool
@@ -33,19 +30,15 @@ unseparated a b =
 -- the fault of a lexeme, given the one before it
 abbrev pub fault : Lexeme → Lexeme → Option Refusal
 fault before l =
-    cond (too_large l.token) (Some (refusal NumberTooLarge l.place))
-    (cond (unseparated before l) (Some (refusal MissingSeparator l.place)) None)
+    if too_large l.token then Some (refusal NumberTooLarge l.place)
+    else if unseparated before l then Some (refusal MissingSeparator l.place)
+    else None
 
 -- the fault at the end of the lexemes
 abbrev pub ending_fault : Ending → Option Refusal
 ending_fault complete = None
 ending_fault (unexpected p) = Some (refusal UnexpectedByte p)
 ending_fault (unclosed p) = Some (refusal UnclosedComment p)
-
--- the first of two faults
-abbrev pub or_else : Option Refusal → Option Refusal → Option Refusal
-or_else None later = later
-or_else (Some fault) later = Some fault
 
 -- the first fault of lexemes after this one
 abbrev pub first_fault : Lexeme → List Lexeme → Ending → Option Refusal
@@ -58,14 +51,9 @@ first_fault before (l ∷ ls) e = or_else (fault before l) (first_fault l ls e)
 abbrev pub start : Lexeme
 start = record { place = 0; text = []; token = end }
 
--- an answer, unless there is a fault
-abbrev pub unless : {X : Type 0} → Option Refusal → Result X Refusal → Result X Refusal
-unless None answer = answer
-unless (Some fault) answer = Err fault
-
 -- a number of lexemes, which is at most 2,048, with the place of the first one too many
 abbrev pub count_reply : ℕ → ℕ → Result ℕ Refusal
-count_reply n surplus = cond (nat_le n 2048) (Ok n) (Err (refusal TooManyTokens surplus))
+count_reply n surplus = if nat_le n 2048 then Ok n else Err (refusal TooManyTokens surplus)
 
 abbrev pub lexeme_count : List Lexeme → Result ℕ Refusal
 lexeme_count ls = count_reply (length ls) (slice_index (map (λ l. l.place) ls) 2048)
@@ -73,7 +61,8 @@ lexeme_count ls = count_reply (length ls) (slice_index (map (λ l. l.place) ls) 
 -- what lex answers for a source with these lexemes
 abbrev pub lex_reply : List ℕ → List Lexeme → Ending → Result ℕ Refusal
 lex_reply source ls e =
-    cond (nat_le (length source) 16384) (unless (first_fault start ls e) (lexeme_count ls)) (Err (refusal SourceTooLong 16384))
+    if nat_le (length source) 16384 then unless (first_fault start ls e) (lexeme_count ls)
+    else Err (refusal SourceTooLong 16384)
 
 -- what it leaves in the array
 abbrev pub TokensAfter : List Lexeme → List Token → List Token → Result ℕ Refusal → Type 0
@@ -97,7 +86,7 @@ UniqueLexemes = (p : ℕ) (bs : List ℕ) (ls ms : List Lexeme) (e f : Ending)
 
 -- each token stands at p or behind, and each behind the one before it
 abbrev pub Rising : ℕ → List Tok → Type 0
-Rising p [] = Unit {0}
+Rising p [] = ⊤
 Rising p (end ∷ ts) = Rising p ts
 Rising p (mark q m ∷ ts) = (p ≤ q) × Rising (q + 1) ts
 Rising p (number q n ∷ ts) = (p ≤ q) × Rising (q + 1) ts

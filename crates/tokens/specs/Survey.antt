@@ -1,13 +1,14 @@
 -- What the two passes over a source answer.
-use Rattle.std.specs.Prelude.{◌≡◌, ℕ, ◌+◌, ◌≤◌, Bool, true, false, cond, ◌&&◌, List, length, None, Ok, Err, Result, ◌==◌}
+use Rattle.std.specs.Prelude.{◌≡◌, ℕ, ◌+◌, ◌≤◌, Bool, true, false, if◌then◌else◌, ◌&&◌, List, length, Some, None, Ok, Err, Result, ◌==◌, option_map}
 use Rattle.refusal.specs.declared.Refusal.{Refusal}
-use Rattle.refusal.specs.declared.Reason.TheVariants.{MissingSeparator}
+use Rattle.refusal.specs.declared.Reason.TheVariants.{MissingSeparator, TooManyTokens}
 use Rattle.tokens.specs.declared.bytes.Class.{Class}
 use Rattle.tokens.specs.declared.bytes.Class.TheVariants.{Letter, Digit, White, Other}
 use Rattle.tokens.specs.declared.lexer.Seen.{Seen}
 use Rattle.tokens.specs.declared.token.Token.{Token}
 use Rattle.tokens.specs.Lexemes.{Lexeme, Ending, complete, Lexed}
-use Rattle.tokens.specs.Reply.{refusal, start, first_fault, unless, lexeme_count, TokensAfter}
+use Rattle.refusal.specs.Faults.{refusal, unless}
+use Rattle.tokens.specs.Reply.{start, first_fault, lexeme_count, TokensAfter}
 
 abbrev pub is_letter : Class → Bool
 is_letter Letter = true
@@ -34,14 +35,18 @@ joined seen place class end = record {
   count = seen.count + 1;
   end = end;
   class = class;
-  surplus = cond (seen.count == 2048) place seen.surplus;
+  surplus = if seen.count == 2048 then Some place else seen.surplus;
 }
 
 -- the same, unless a separator is missing before it
 abbrev pub join : Seen → ℕ → Class → ℕ → Result Seen Refusal
 join seen place class end =
-    cond (seen.end == place && apart seen.class class)
-    (Err (refusal MissingSeparator place)) (Ok (joined seen place class end))
+    if seen.end == place && apart seen.class class then Err (refusal MissingSeparator place)
+    else Ok (joined seen place class end)
+
+-- the number of lexemes, unless there is one too many
+abbrev pub counted : Seen → Result ℕ Refusal
+counted seen = unless (option_map (refusal TooManyTokens) seen.surplus) (Ok seen.count)
 
 -- the number of lexemes or the first fault
 pub record Surveyed (source : List ℕ) (reply : Result ℕ Refusal) : Type 0 where

@@ -1,4 +1,4 @@
-use Rattle.std.specs.Prelude.{ℕ, List, [], ◌∷◌}
+use Rattle.std.specs.Prelude.{ℕ, List, [], ◌∷◌, ◌++◌, map}
 use Rattle.tokens.specs.declared.token.Mark.{Mark}
 use Rattle.tokens.specs.declared.token.Token.{Token}
 use Rattle.tokens.specs.declared.token.Token.TheVariants as code
@@ -17,5 +17,4 @@ tok (code.Name p v) = name p v.now
 
 -- the tokens, and the end of the source after them
 abbrev pub toks : List Token → List Tok
-toks [] = end ∷ []
-toks (t ∷ ts) = tok t ∷ toks ts
+toks ts = map tok ts ++ end ∷ []

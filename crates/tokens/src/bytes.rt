@@ -1,10 +1,10 @@
 ghost use Rattle.std.specs.Prelude.{◌≡◌, ◌≤◌, length};
 ghost use Rattle.std.specs.List.{prefix_len};
 ghost use Rattle.tokens.specs.Lexemes.{letter, digit};
-ghost use Rattle.tokens.specs.Scanning.{class, After, CommentEnd};
+ghost use Rattle.tokens.specs.Scanning.{class, FirstClosing, CommentEnd};
 
 // What a byte can be part of.
-#[derive(Clone, Copy)]
+#[derive(Clone, Copy, PartialEq, Eq, Debug)]
 pub enum Class {
     Letter,
     Digit,
@@ -12,32 +12,14 @@ pub enum Class {
     Other,
 }
 
-pub fn class_of(c: char) -> Class
-    ensures { result ≡ class c }
+pub fn class_of(byte: u8) -> Class
+    ensures { result ≡ class byte }
 {
-    match c {
-        'a'..='z' | 'A'..='Z' => Class::Letter,
-        '0'..='9' => Class::Digit,
-        ' ' | '\n' | '\t' => Class::White,
+    match byte {
+        b'a'..=b'z' | b'A'..=b'Z' => Class::Letter,
+        b'0'..=b'9' => Class::Digit,
+        b' ' | b'\n' | b'\t' => Class::White,
         _ => Class::Other,
-    }
-}
-
-fn is_letter(byte: u8) -> bool
-    ensures { result ≡ letter byte }
-{
-    match class_of(byte as char) {
-        Class::Letter => true,
-        _ => false,
-    }
-}
-
-fn is_digit(byte: u8) -> bool
-    ensures { result ≡ digit byte }
-{
-    match class_of(byte as char) {
-        Class::Digit => true,
-        _ => false,
     }
 }
 
@@ -46,54 +28,27 @@ pub fn leading_letters(s: &[u8]) -> usize
     ensures value { result ≡ prefix_len letter s.now }
     ensures within { result ≤ length s.now }
 {
-    for (i, byte) in s.iter().enumerate() {
-        if !is_letter(*byte) {
-            return i;
-        }
-    }
-    s.len()
+    s.iter().take_while(|b| b.is_ascii_alphabetic()).count()
 }
 
 pub fn leading_digits(s: &[u8]) -> usize
     ensures value { result ≡ prefix_len digit s.now }
     ensures within { result ≤ length s.now }
 {
-    for (i, byte) in s.iter().enumerate() {
-        if !is_digit(*byte) {
-            return i;
-        }
-    }
-    s.len()
+    s.iter().take_while(|b| b.is_ascii_digit()).count()
 }
 
-// The bytes after the mark that opens a comment.
-pub fn after_opening(s: &[u8]) -> Option<&[u8]>
-    ensures { After 47 42 s.now result }
+// Where the first mark that closes a comment stands.
+fn closing_mark(s: &[u8]) -> Option<usize>
+    ensures { FirstClosing s.now result }
 {
-    match s {
-        [b'/', b'*', rest @ ..] => Some(rest),
-        _ => None,
-    }
-}
-
-// The bytes after the mark that closes a comment.
-fn after_closing(s: &[u8]) -> Option<&[u8]>
-    ensures { After 42 47 s.now result }
-{
-    match s {
-        [b'*', b'/', rest @ ..] => Some(rest),
-        _ => None,
-    }
+    s.windows(2).position(|w| w == b"*/".as_slice())
 }
 
 // The bytes after the first mark that closes a comment.
 pub fn after_comment(s: &[u8]) -> Option<&[u8]>
     ensures { CommentEnd s.now result }
 {
-    for i in 0..s.len() {
-        if let Some(rest) = after_closing(&s[i..]) {
-            return Some(rest);
-        }
-    }
-    None
+    let mark = closing_mark(s)?;
+    Some(&s[mark + 2..])
 }

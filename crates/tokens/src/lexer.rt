@@ -1,6 +1,6 @@
-ghost use Rattle.std.specs.Prelude.{◌≡◌, ◌+◌, ◌^◌, ◌<◌, Err};
-ghost use Rattle.tokens.specs.Reply.{refusal, count_reply, Lexes, UniqueLexemes, PlacesRise, Samples};
-ghost use Rattle.tokens.specs.Survey.{apart, join, Surveyed, Faultless, Filled};
+ghost use Rattle.std.specs.Prelude.{◌≡◌, ◌+◌, ◌^◌, ◌<◌};
+ghost use Rattle.tokens.specs.Reply.{Lexes, UniqueLexemes, PlacesRise, Samples};
+ghost use Rattle.tokens.specs.Survey.{apart, join, counted, Surveyed, Faultless, Filled};
 
 use crate::bytes::{Class, class_of};
 use crate::scan::{Next, next_at};
@@ -12,64 +12,56 @@ pub const MAX_BYTES: usize = 16384;
 
 pub const MAX_TOKENS: usize = 2048;
 
+// Whether one of two classes is that of a word and the other that of a number.
+fn are_apart(a: Class, b: Class) -> bool
+    ensures { result ≡ apart a b }
+{
+    matches!(
+        (a, b),
+        (Class::Letter, Class::Digit) | (Class::Digit, Class::Letter)
+    )
+}
+
 // What is kept of the lexemes so far: their number, the end of the last one and the class of its first byte,
-// and the place of the first one too many.
+// and the place of the first one too many, if there is one.
 #[derive(Clone, Copy)]
 struct Seen {
     count: usize,
     end: usize,
     class: Class,
-    surplus: usize,
+    surplus: Option<usize>,
 }
 
-fn refused(reason: Reason, place: usize) -> Result<usize, Refusal>
-    ensures { result ≡ Err (refusal reason place) }
-{
-    Err(Refusal { reason, place })
-}
-
-// Whether one of two classes is that of a word and the other that of a number.
-fn are_apart(a: Class, b: Class) -> bool
-    ensures { result ≡ apart a b }
-{
-    match (a, b) {
-        (Class::Letter, Class::Digit) => true,
-        (Class::Digit, Class::Letter) => true,
-        _ => false,
+impl Seen {
+    // What is kept after one more lexeme, unless a separator is missing before it.
+    fn joined_to(self, place: usize, class: Class, end: usize) -> Result<Seen, Refusal>
+        requires { self.count + 1 < 2 ^ 64 }
+        ensures { result ≡ join self place class end }
+    {
+        if self.end == place && are_apart(self.class, class) {
+            return Err(Reason::MissingSeparator.at(place));
+        }
+        let surplus = if self.count == MAX_TOKENS {
+            Some(place)
+        } else {
+            self.surplus
+        };
+        Ok(Seen {
+            count: self.count + 1,
+            end,
+            class,
+            surplus,
+        })
     }
-}
 
-// What is kept after one more lexeme, unless a separator is missing before it.
-fn joined_to(seen: Seen, place: usize, class: Class, end: usize) -> Result<Seen, Refusal>
-    requires { seen.count + 1 < 2 ^ 64 }
-    ensures { result ≡ join seen place class end }
-{
-    if seen.end == place && are_apart(seen.class, class) {
-        return Err(Refusal {
-            reason: Reason::MissingSeparator,
-            place,
-        });
+    fn counted(self) -> Result<usize, Refusal>
+        ensures { result ≡ counted self }
+    {
+        match self.surplus {
+            Some(place) => Err(Reason::TooManyTokens.at(place)),
+            None => Ok(self.count),
+        }
     }
-    let surplus = if seen.count == MAX_TOKENS {
-        place
-    } else {
-        seen.surplus
-    };
-    Ok(Seen {
-        count: seen.count + 1,
-        end,
-        class,
-        surplus,
-    })
-}
-
-fn counted(seen: Seen) -> Result<usize, Refusal>
-    ensures { result ≡ count_reply seen.count seen.surplus }
-{
-    if seen.count > MAX_TOKENS {
-        return refused(Reason::TooManyTokens, seen.surplus);
-    }
-    Ok(seen.count)
 }
 
 // The number of lexemes, or the first fault.
@@ -81,41 +73,38 @@ fn survey(source: &[u8]) -> Result<usize, Refusal>
         count: 0,
         end: 0,
         class: Class::Other,
-        surplus: 0,
+        surplus: None,
     };
     loop {
         let place = source.len() - rest.len();
-        match next_at(place, rest) {
-            Next::End => return counted(seen),
+        match next_at(place, rest)? {
+            Next::End => return seen.counted(),
             Next::Gap(after) => rest = after,
             Next::Token(_, after) => {
-                let class = class_of(rest[0] as char);
-                seen = joined_to(seen, place, class, source.len() - after.len())?;
+                let class = class_of(rest[0]);
+                seen = seen.joined_to(place, class, source.len() - after.len())?;
                 rest = after;
             }
-            Next::TooLarge => return refused(Reason::NumberTooLarge, place),
-            Next::Unclosed => return refused(Reason::UnclosedComment, place),
-            Next::Unexpected => return refused(Reason::UnexpectedByte, place),
         }
     }
 }
 
-// Writes the tokens of a source without fault.
+// Writes the tokens of a source without fault. They are counted by hand: gaps stand between them, and fill no element.
 fn fill<'a>(source: &'a [u8], tokens: &mut [Token<'a>; MAX_TOKENS])
     requires { Faultless source.now }
     ensures { Filled source.now tokens.old tokens.new }
 {
     let mut rest = source;
     let mut count = 0;
-    loop {
-        match next_at(source.len() - rest.len(), rest) {
+    while let Ok(next) = next_at(source.len() - rest.len(), rest) {
+        match next {
+            Next::End => return,
+            Next::Gap(after) => rest = after,
             Next::Token(token, after) => {
                 tokens[count] = token;
                 count += 1;
                 rest = after;
             }
-            Next::Gap(after) => rest = after,
-            _ => return,
         }
     }
 }
@@ -124,7 +113,7 @@ fn lex_source<'a>(source: &'a [u8], tokens: &mut [Token<'a>; MAX_TOKENS]) -> Res
     ensures { Lexes source.now tokens.old tokens.new result }
 {
     if source.len() > MAX_BYTES {
-        return refused(Reason::SourceTooLong, MAX_BYTES);
+        return Err(Reason::SourceTooLong.at(MAX_BYTES));
     }
     let count = survey(source)?;
     fill(source, tokens);

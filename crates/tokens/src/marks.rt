@@ -1,23 +1,10 @@
-ghost use Rattle.std.specs.Prelude.{◌≡◌, [], ◌∷◌, Decides};
-ghost use Rattle.tokens.specs.Scanning.{singles, keywords, Spelt, Double};
+ghost use Rattle.std.specs.Prelude.{[], ◌∷◌};
+ghost use Rattle.tokens.specs.Scanning.{singles, keywords, Spelt, Symbol};
 
 use crate::token::Mark;
 
-// A symbol of two bytes, and the bytes after it.
-pub fn double_symbol(s: &[u8]) -> Option<(Mark, &[u8])>
-    ensures { Double s.now result }
-{
-    match s {
-        [b'<', b'=', rest @ ..] => Some((Mark::LessEqual, rest)),
-        [b'>', b'=', rest @ ..] => Some((Mark::GreaterEqual, rest)),
-        [b'=', b'=', rest @ ..] => Some((Mark::Equal, rest)),
-        [b'!', b'=', rest @ ..] => Some((Mark::NotEqual, rest)),
-        _ => None,
-    }
-}
-
 // The symbol of one byte.
-pub fn single_symbol(byte: u8) -> Option<Mark>
+fn single_symbol(byte: u8) -> Option<Mark>
     ensures { Spelt singles (byte ∷ []) result }
 {
     match byte {
@@ -40,28 +27,30 @@ pub fn single_symbol(byte: u8) -> Option<Mark>
     }
 }
 
-fn is_text(s: &[u8], text: &[u8]) -> bool
-    ensures { Decides result (s.now ≡ text.now) }
+// The symbol in front, and the bytes after it.
+pub fn symbol(s: &[u8]) -> Option<(Mark, &[u8])>
+    ensures { Symbol s.now result }
 {
-    s == text
+    match s {
+        [b'<', b'=', rest @ ..] => Some((Mark::LessEqual, rest)),
+        [b'>', b'=', rest @ ..] => Some((Mark::GreaterEqual, rest)),
+        [b'=', b'=', rest @ ..] => Some((Mark::Equal, rest)),
+        [b'!', b'=', rest @ ..] => Some((Mark::NotEqual, rest)),
+        [first, rest @ ..] => Some((single_symbol(*first)?, rest)),
+        [] => None,
+    }
 }
 
 pub fn keyword_of(word: &[u8]) -> Option<Mark>
     ensures { Spelt keywords word.now result }
 {
-    if is_text(word, b"else") {
-        Some(Mark::Else)
-    } else if is_text(word, b"if") {
-        Some(Mark::If)
-    } else if is_text(word, b"int") {
-        Some(Mark::Int)
-    } else if is_text(word, b"return") {
-        Some(Mark::Return)
-    } else if is_text(word, b"void") {
-        Some(Mark::Void)
-    } else if is_text(word, b"while") {
-        Some(Mark::While)
-    } else {
-        None
+    match word {
+        b"else" => Some(Mark::Else),
+        b"if" => Some(Mark::If),
+        b"int" => Some(Mark::Int),
+        b"return" => Some(Mark::Return),
+        b"void" => Some(Mark::Void),
+        b"while" => Some(Mark::While),
+        _ => None,
     }
 }

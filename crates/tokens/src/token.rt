@@ -1,7 +1,7 @@
-ghost use Rattle.std.specs.Prelude.{◌≡◌, Decides};
+ghost use Rattle.std.specs.Prelude.{◌≡◌, ◌↔◌, IsTrue};
 
 // A keyword or a symbol.
-#[derive(Clone, Copy, Debug)]
+#[derive(Clone, Copy, PartialEq, Eq, Debug)]
 pub enum Mark {
     Else,
     If,
@@ -31,23 +31,17 @@ pub enum Mark {
 }
 
 // A token with its place, the number of bytes before it. A name borrows its bytes from the source.
-#[derive(Clone, Copy)]
+#[derive(Clone, Copy, PartialEq, Eq, Debug)]
 pub enum Token<'a> {
     Mark(usize, Mark),
     Number(usize, u32),
     Name(usize, &'a [u8]),
 }
 
-fn equal(a: u8, b: u8) -> bool
-    ensures { Decides result (a ≡ b) }
-{
-    a == b
-}
-
 impl Mark {
     pub fn is(self, other: Mark) -> bool
-        ensures { Decides result (self ≡ other) }
+        ensures { IsTrue result ↔ (self ≡ other) }
     {
-        equal(self as u8, other as u8)
+        self == other
     }
 }

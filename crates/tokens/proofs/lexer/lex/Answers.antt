@@ -1,7 +1,13 @@
-use Rattle.tokens.proofs.Unique.{unique}
-use Rattle.tokens.proofs.Rising.{rising}
-use Rattle.tokens.proofs.Samples.{samples}
+use Rattle.tokens.proofs.Unique as laws
+use Rattle.tokens.proofs.Rising as places
+use Rattle.tokens.proofs.Samples as small
 use Rattle.tokens.proofs.lexer.lex.Goals as goal
 
-pub returns : goal.returns
-returns c = record { result = c.lex_source.ensures; unique = unique; rising = rising; samples = samples }
+pub returns-clause-unique : goal.returns-clause-unique
+returns-clause-unique c = laws.unique
+
+pub returns-clause-rising : goal.returns-clause-rising
+returns-clause-rising c = places.rising
+
+pub returns-clause-samples : goal.returns-clause-samples
+returns-clause-samples c = small.samples

@@ -1,16 +1,10 @@
 use Rattle.std.proofs.Common.{arith}
-use Rattle.std.proofs.lemmas.Result.{err_from_is_err_and}
-use Rattle.tokens.proofs.Lexing.{too_long, refused, faultless, accepted}
+use Rattle.tokens.proofs.Lexing.{too_long, faultless, accepted}
 use Rattle.tokens.proofs.lexer.lex_source.Goals as goal
 
 pub returns-then-source-gt-MAX_BYTES : goal.returns-then-source-gt-MAX_BYTES
 returns-then-source-gt-MAX_BYTES c =
-    rw c.refused.ensures (too_long c.args.source.now c.args.tokens.now c.if-source-gt-MAX_BYTES.true)
-
-pub returns-in_err-count : goal.returns-in_err-count
-returns-in_err-count c =
-    let p = err_from_is_err_and c.from_residual.result c.from_residual.ensures.1 in
-    rw (p.1, p.2) (refused c.args.tokens.now (omega arith) c.in_err-count.ensures)
+    rw c.at.ensures (too_long c.args.source.now c.args.tokens.now c.if-source-gt-MAX_BYTES.true)
 
 pub fill-requires : goal.fill-requires
 fill-requires c = faultless c.args.tokens.now (omega arith) c.in_ok-count.ensures
