@@ -1,6 +1,7 @@
 ghost use Rattle.std.specs.Prelude.{◌≡◌, IfOk};
 ghost use Rattle.std.specs.Int.{w32};
 ghost use Rattle.std.proofs.Common.{to_z};
+ghost use Rattle.machine.specs.Op.{op_number};
 ghost use Rattle.image.specs.Layout.{layout};
 ghost use Rattle.image.specs.Reading.{four_at, code_of};
 ghost use Rattle.gateway.specs.Damage.{inverted};
@@ -8,11 +9,11 @@ ghost use Rattle.gateway.specs.Limit.{simple, limit_code, first_loaded};
 
 use crate::damage::invert_bits;
 use crate::error::Fault;
-use crate::ops::{HALT, LDC, OUT};
 use crate::print::{print_code, print_head};
 use crate::reading::read_code;
 use crate::text::FourBytes;
 use image::BLOCK;
+use machine::Op;
 use machine::instruction::Instruction;
 use std::alloc::Global;
 use std::io;
@@ -60,11 +61,11 @@ static TRIALS: [Trial; 3] = [
 ];
 
 // An instruction on register 0.
-fn on_register_0(op: u8, d: i32) -> Instruction
-    ensures { result ≡ simple op d }
+fn on_register_0(op: Op, d: i32) -> Instruction
+    ensures { result ≡ simple (op_number op) d }
 {
     Instruction {
-        op,
+        op: op.number(),
         r: 0,
         s: 0,
         t: 0,
@@ -77,9 +78,9 @@ fn limit_code(limit: i32) -> [Instruction; 3]
     ensures { result ≡ limit_code limit }
 {
     [
-        on_register_0(LDC, limit),
-        on_register_0(OUT, 0),
-        on_register_0(HALT, 0),
+        on_register_0(Op::Ldc, limit),
+        on_register_0(Op::Out, 0),
+        on_register_0(Op::Halt, 0),
     ]
 }
 
@@ -88,7 +89,7 @@ fn limit_of(code: &[Instruction]) -> Option<i32>
     ensures { result ≡ first_loaded code.now }
 {
     match code.first() {
-        Some(load) if load.op == LDC => Some(load.d),
+        Some(load) if load.op == Op::Ldc.number() => Some(load.d),
         _ => None,
     }
 }

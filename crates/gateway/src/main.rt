@@ -9,7 +9,6 @@ mod error;
 mod exec;
 mod neighbours;
 mod notes;
-mod ops;
 mod print;
 mod reading;
 mod script;

@@ -8,7 +8,6 @@ use crate::error::Fault;
 use crate::exec::like;
 use crate::neighbours::{Neighbours, Sighting};
 use crate::notes::Notes;
-use crate::ops::{IN, LDC, OUT};
 use crate::print::print_code;
 use crate::reading::BLANK;
 use crate::script::{Call, DAY, HOURS, Hour, Rule};
@@ -17,6 +16,7 @@ use crate::trace::{Event, Trace};
 use cabinet::Empty;
 use day::{Command, Denial, Order, Reply};
 use image::BLOCK;
+use machine::Op;
 use machine::instruction::Instruction;
 use port::{Ceiling, Live};
 use std::alloc::{AllocError, Global};
@@ -34,10 +34,16 @@ const EVENTS: usize = 16;
 
 // Code that puts each reading on, and goes back to the start.
 static FOLLOWER: [Instruction; SLOTS] = [
-    Instruction { op: IN, ..BLANK },
-    Instruction { op: OUT, ..BLANK },
     Instruction {
-        op: LDC,
+        op: Op::In as u8,
+        ..BLANK
+    },
+    Instruction {
+        op: Op::Out as u8,
+        ..BLANK
+    },
+    Instruction {
+        op: Op::Ldc as u8,
         r: 7,
         ..BLANK
     },

@@ -1,22 +1,12 @@
 use crate::book::Book;
-use crate::ops::DIV;
 use crate::trace::Event;
 use crc::is_sealed;
 use day::{Denial, Done, Reply};
 use image::{Header, header_at};
 use machine::instruction::Instruction;
-use machine::{Ran, Stop};
+use machine::{Op, Ran, Stop};
 use refusal::{Reason, Refusal};
 use std::fmt;
-
-static MNEMONICS: [&'static str; 17] = [
-    "HALT", "IN", "OUT", "ADD", "SUB", "MUL", "DIV", "LD", "ST", "LDA", "LDC", "JLT", "JLE", "JGT",
-    "JGE", "JEQ", "JNE",
-];
-
-fn mnemonic(op: u8) -> &'static str {
-    MNEMONICS.get(op as usize).copied().unwrap_or("?")
-}
 
 // An instruction in the notation of the assembler.
 #[derive(Clone, Copy)]
@@ -25,12 +15,11 @@ pub struct Assembly(pub Instruction);
 impl fmt::Display for Assembly {
     fn fmt<W: fmt::Write>(&self, f: &mut fmt::Formatter<W>) -> fmt::Result {
         let Instruction { op, r, s, t, d } = self.0;
-        let name = mnemonic(op);
-        // the ops up to DIV take three registers, the others a register and an address
-        if op <= DIV {
-            write!(f, "{name:<4} {r},{s},{t}")
-        } else {
-            write!(f, "{name:<4} {r},{d}({s})")
+        match Op::try_from(op) {
+            // the ops up to DIV take three registers, the others a register and an address
+            Ok(op) if op.number() <= Op::Div.number() => write!(f, "{op:<4} {r},{s},{t}"),
+            Ok(op) => write!(f, "{op:<4} {r},{d}({s})"),
+            Err(_) => write!(f, "?    {r},{d}({s})"),
         }
     }
 }
