@@ -6,11 +6,11 @@ use Rattle.refusal.specs.declared.Refusal.{Refusal}
 use Rattle.refusal.specs.declared.Reason.TheVariants.{BlockCheck, CodeStoreTooShort}
 use Rattle.crc.specs.Crc.{sealed, Bytes}
 use Rattle.crc.proofs.Burst.{burst_detected}
+use Rattle.refusal.specs.Faults.{refusal, or_else, unless}
 use Rattle.image.specs.Layout.{Layout}
-use Rattle.image.specs.Writing.{refusal}
-use Rattle.image.specs.Reading.{four_at, header_right, body_right, or_else, unless, fault, first_fault, length_fault, image_fault, code_of, read_reply}
+use Rattle.image.specs.Reading.{four_at, header_right, body_right, fault, length_fault, image_fault, code_of, read_reply}
 use Rattle.image.specs.Laws.{Damaged, DamageFound}
-use Rattle.image.proofs.Walks.{first_fault_next}
+use Rattle.image.proofs.Walks.{fault_in, first_fault_next}
 use Rattle.image.proofs.Faults.{fault_is, right_parts, or_else_none}
 use Rattle.image.proofs.ImageForm.{same_four}
 
@@ -28,48 +28,48 @@ same_block a b index k h e =
     inner a ∙ ap (λ xs. take 512 (drop (512 * k) xs)) e ∙ sym (inner b)
 
 module _ {A : Type 0} (l : Layout A) (number n : ℕ) (bytes : List ℕ) where
-  at_start : first_fault l number n 0 n bytes ≡ first_fault l number n 0 (n - 0) (drop (512 * 0) bytes)
-  at_start = ap (λ m. first_fault l number n 0 m bytes) (omega arith)
+  at_start : fault_in l number n 0 n bytes ≡ fault_in l number n 0 (n - 0) (drop (512 * 0) bytes)
+  at_start = ap (λ m. fault_in l number n 0 m bytes) (omega arith)
 
   step : (k : ℕ) → k < n → fault l number k n (block_at bytes k) ≡ None
-      → first_fault l number n k (n - k) (drop (512 * k) bytes) ≡ first_fault l number n (suc k) (n - suc k) (drop (512 * suc k) bytes)
+      → fault_in l number n k (n - k) (drop (512 * k) bytes) ≡ fault_in l number n (suc k) (n - suc k) (drop (512 * suc k) bytes)
   step k h e =
       first_fault_next l number n bytes k h
-      ∙ ap (λ f. or_else f (first_fault l number n (k + 1) (n - (k + 1)) (drop (512 * (k + 1)) bytes))) e
-      ∙ ap (λ j. first_fault l number n j (n - j) (drop (512 * j) bytes)) (add-one k)
+      ∙ ap (λ f. or_else f (fault_in l number n (k + 1) (n - (k + 1)) (drop (512 * (k + 1)) bytes))) e
+      ∙ ap (λ j. fault_in l number n j (n - j) (drop (512 * j) bytes)) (add-one k)
 
-  each_clean : first_fault l number n 0 n bytes ≡ None → (k : ℕ) → k ≤ n
-      → first_fault l number n k (n - k) (drop (512 * k) bytes) ≡ None
+  each_clean : fault_in l number n 0 n bytes ≡ None → (k : ℕ) → k ≤ n
+      → fault_in l number n k (n - k) (drop (512 * k) bytes) ≡ None
   each_clean e zero h = sym at_start ∙ e
   each_clean e (suc k) h =
       let before = each_clean e k (omega arith) in
       let here = or_else_none (fault l number k n (block_at bytes k)) _ (sym (first_fault_next l number n bytes k (omega arith)) ∙ before) in
       sym (step k (omega arith) here.0) ∙ before
 
-  clean_at : first_fault l number n 0 n bytes ≡ None → (k : ℕ) → k < n → fault l number k n (block_at bytes k) ≡ None
+  clean_at : fault_in l number n 0 n bytes ≡ None → (k : ℕ) → k < n → fault l number k n (block_at bytes k) ≡ None
   clean_at e k h =
       (or_else_none (fault l number k n (block_at bytes k)) _
       (sym (first_fault_next l number n bytes k h) ∙ each_clean e k (omega arith))).0
 
   walk_to : (index : ℕ) → index ≤ n → ((k : ℕ) → k < index → fault l number k n (block_at bytes k) ≡ None)
-      → first_fault l number n 0 n bytes ≡ first_fault l number n index (n - index) (drop (512 * index) bytes)
+      → fault_in l number n 0 n bytes ≡ fault_in l number n index (n - index) (drop (512 * index) bytes)
   walk_to zero h each = at_start
   walk_to (suc index) h each =
       walk_to index (omega arith) (λ k less. each k (omega arith)) ∙ step index (omega arith) (each index (omega arith))
 
   stops_at : (index : ℕ) (e : Refusal) → index < n → ((k : ℕ) → k < index → fault l number k n (block_at bytes k) ≡ None)
-      → fault l number index n (block_at bytes index) ≡ Some e → first_fault l number n 0 n bytes ≡ Some e
+      → fault l number index n (block_at bytes index) ≡ Some e → fault_in l number n 0 n bytes ≡ Some e
   stops_at index e h each found =
       walk_to index (omega arith) each
       ∙ first_fault_next l number n bytes index h
-      ∙ ap (λ f. or_else f (first_fault l number n (index + 1) (n - (index + 1)) (drop (512 * (index + 1)) bytes))) found
+      ∙ ap (λ f. or_else f (fault_in l number n (index + 1) (n - (index + 1)) (drop (512 * (index + 1)) bytes))) found
 
 module _ {A : Type 0} (l : Layout A) (index : ℕ) (original image : List ℕ) (each : Bytes image) (d : Damaged l index original image) where
   abbrev n : ℕ
   n = length original / 512
 
-  parts : (length_fault l (length original) ≡ None) × (first_fault l (four_at original 0) n 0 n original ≡ None)
-  parts = or_else_none (length_fault l (length original)) (first_fault l (four_at original 0) n 0 n original) d.faultless
+  parts : (length_fault l (length original) ≡ None) × (fault_in l (four_at original 0) n 0 n original ≡ None)
+  parts = or_else_none (length_fault l (length original)) (fault_in l (four_at original 0) n 0 n original) d.faultless
 
   -- the damaged block
   unsealed : sealed (block_at image index) ≡ false
@@ -97,8 +97,8 @@ module _ {A : Type 0} (l : Layout A) (index : ℕ) (original image : List ℕ) (
       let count : length image / 512 ≡ n = ap (λ m. m / 512) d.same_length in
       let found = sym (fault_is l (four_at image 0) index n (block_at image index) false
       (header_right l (four_at image 0) index n (block_at image index)) (body_right l (block_at image index)) (sym unsealed) refl refl) in
-      ap (λ m. or_else (length_fault l m) (first_fault l (four_at image 0) (m / 512) 0 (m / 512) image)) d.same_length
-      ∙ ap (λ f. or_else f (first_fault l (four_at image 0) n 0 n image)) parts.0
+      ap (λ m. or_else (length_fault l m) (fault_in l (four_at image 0) (m / 512) 0 (m / 512) image)) d.same_length
+      ∙ ap (λ f. or_else f (fault_in l (four_at image 0) n 0 n image)) parts.0
       ∙ stops_at l (four_at image 0) n image index (refusal BlockCheck index) d.inside undamaged found
 
 pub damage_found : {A : Type 0} (l : Layout A) (image : List ℕ) (room : ℕ) → Bytes image → DamageFound l image (read_reply l image room)

@@ -3,9 +3,9 @@ use Rattle.std.proofs.lemmas.Bool.{and_parts, cases_lt, cond-true, cond-false, l
 use Rattle.refusal.specs.declared.Refusal.{Refusal}
 use Rattle.refusal.specs.declared.Reason.TheVariants.{BlockCheck, BlockHeader, InstructionForm}
 use Rattle.crc.specs.Crc.{sealed}
+use Rattle.refusal.specs.Faults.{refusal, unless, or_else}
 use Rattle.image.specs.Layout.{Layout}
-use Rattle.image.specs.Writing.{refusal}
-use Rattle.image.specs.Reading.{two_at, four_at, count_right, header_right, body_right, fault, unless, or_else}
+use Rattle.image.specs.Reading.{two_at, four_at, count_right, header_right, body_right, fault}
 
 -- the fault that three tests show
 abbrev pub verdict : ℕ → Bool → Bool → Bool → Option Refusal

@@ -1,34 +1,16 @@
-use Rattle.std.proofs.Common.{◌≡◌, ℕ, zero, suc, ◌+◌, ◌-◌, ◌*◌, ◌<◌, ◌≤◌, min, Bool, true, false, ◌&&◌, List, [], ◌∷◌, ◌++◌, length, get_or, take, drop, sym, refl, ap, ◌∙◌, inl, inr, mul-suc, add-one, arith, length-drop}
+use Rattle.std.proofs.Common.{◌≡◌, ℕ, zero, suc, ◌+◌, ◌-◌, ◌*◌, ◌<◌, ◌≤◌, min, Bool, true, false, ◌&&◌, List, [], ◌∷◌, ◌++◌, length, get_or, take, drop, Option, sym, refl, ap, ◌∙◌, inl, inr, mul-suc, add-one, arith, length-drop}
 use borrow.Rule.Slice.PartMut.{put_mid}
-use Rattle.std.proofs.lemmas.List.{append_assoc, at_drop_more, at_drop_all, drop-drop, take_all, take_rest}
+use Rattle.std.proofs.lemmas.List.{append_assoc, drop-drop, length-map, take_all, take_rest}
 use Rattle.std.proofs.lemmas.Slice.{take-put_mid}
 use Rattle.std.proofs.lemmas.Bool.{cases_lt, cond-true, cond-false}
+use Rattle.refusal.specs.declared.Refusal.{Refusal}
+use Rattle.refusal.specs.Faults.{or_else}
+use Rattle.std.specs.List.{flat_map}
+use Rattle.std.specs.Simd.{first_chunks}
 use Rattle.image.specs.Layout.{Layout}
 use Rattle.image.specs.Blocks.{block, blocks_from}
-use Rattle.image.specs.Writing.{leading}
-use Rattle.image.specs.Reading.{all, instructions, or_else, fault, first_fault, content}
-
--- steps of the loops that walk along a code or an image
-
-module _ {X : Type 0} (test : X → Bool) (xs : List X) (k : ℕ) (d : X) where
-  pub leading_passes : k < length xs → test (get_or xs k d) ≡ true
-      → leading test (drop k xs) ≡ suc (leading test (drop (k + 1) xs))
-  leading_passes h e = at_drop_more (leading test) xs k d h ∙ cond-true (test (get_or xs k d)) _ _ e
-
-  pub leading_fails : k < length xs → test (get_or xs k d) ≡ false → leading test (drop k xs) ≡ 0
-  leading_fails h e = at_drop_more (leading test) xs k d h ∙ cond-false (test (get_or xs k d)) _ _ e
-
-  pub leading_ends : length xs ≤ k → leading test (drop k xs) ≡ 0
-  leading_ends h = at_drop_all (leading test) xs k h
-
-  pub all_passes : k < length xs → test (get_or xs k d) ≡ true → all test (drop k xs) ≡ all test (drop (k + 1) xs)
-  all_passes h e = at_drop_more (all test) xs k d h ∙ ap (λ b. b && all test (drop (k + 1) xs)) e
-
-  pub all_fails : k < length xs → test (get_or xs k d) ≡ false → all test (drop k xs) ≡ false
-  all_fails h e = at_drop_more (all test) xs k d h ∙ ap (λ b. b && all test (drop (k + 1) xs)) e
-
-  pub all_ends : length xs ≤ k → all test (drop k xs) ≡ true
-  all_ends h = at_drop_all (all test) xs k h
+use Rattle.image.specs.Reading.{instructions, fault, first_fault, held}
+use Rattle.image.proofs.Chunks.{length_chunks}
 
 -- the k-th row of w elements, the last perhaps shorter
 pub row : {X : Type 0} (xs : List X) (a w : ℕ)
@@ -66,46 +48,26 @@ module _ {A : Type 0} (l : Layout A) (number blocks : ℕ) (code : List A) where
       ap (λ n. blocks_from l number blocks index n (drop (l.capacity * index) code)) (one_less blocks index h)
       ∙ ap (λ xs. here ++ blocks_from l number blocks (index + 1) (blocks - (index + 1)) xs) (drop_row code l.capacity index)
 
-pub instructions_next : {A : Type 0} (l : Layout A) (count k : ℕ) (bytes : List ℕ) → k < count
-    → instructions l (count - k) (drop (l.width * k) bytes)
-    ≡ l.decode (take l.width (drop (l.width * k) bytes))
-    ∷ instructions l (count - (k + 1)) (drop (l.width * (k + 1)) bytes)
-instructions_next l count k bytes h =
-    let here = l.decode (take l.width (drop (l.width * k) bytes)) in
-    ap (λ n. instructions l n (drop (l.width * k) bytes)) (one_less count k h)
-    ∙ ap (λ xs. here ∷ instructions l (count - (k + 1)) xs) (drop_row bytes l.width k)
+-- the first fault and the code of the n blocks that some bytes begin with
+module _ {A : Type 0} (l : Layout A) where
+  abbrev pub fault_in : ℕ → ℕ → ℕ → ℕ → List ℕ → Option Refusal
+  fault_in number blocks index n bytes = first_fault l number blocks index (first_chunks 512 n bytes)
 
-pub instructions_none : {A : Type 0} (l : Layout A) (n : ℕ) (bytes : List ℕ) → n ≡ 0 → instructions l n bytes ≡ []
-instructions_none l n bytes e = ap (λ k. instructions l k bytes) e
-
-pub content_none : {A : Type 0} (l : Layout A) (n : ℕ) (bytes : List ℕ) → n ≡ 0 → content l n bytes ≡ []
-content_none l n bytes e = ap (λ k. content l k bytes) e
+  abbrev pub content_in : ℕ → List ℕ → List A
+  content_in n bytes = flat_map (held l) (first_chunks 512 n bytes)
 
 module _ {A : Type 0} (l : Layout A) (number blocks : ℕ) (image : List ℕ) (index : ℕ) (inside : index < blocks) where
   pub first_fault_next :
-      first_fault l number blocks index (blocks - index) (drop (512 * index) image)
+      fault_in l number blocks index (blocks - index) (drop (512 * index) image)
       ≡ or_else (fault l number index blocks (take 512 (drop (512 * index) image)))
-      (first_fault l number blocks (index + 1) (blocks - (index + 1)) (drop (512 * (index + 1)) image))
+      (fault_in l number blocks (index + 1) (blocks - (index + 1)) (drop (512 * (index + 1)) image))
   first_fault_next =
       let here = fault l number index blocks (take 512 (drop (512 * index) image)) in
-      ap (λ n. first_fault l number blocks index n (drop (512 * index) image)) (one_less blocks index inside)
-      ∙ ap (λ xs. or_else here (first_fault l number blocks (index + 1) (blocks - (index + 1)) xs)) (drop_row image 512 index)
-
-  -- the instructions of the block of this index
-  abbrev pub held : List A
-  held =
-      instructions l (get_or (take 512 (drop (512 * index) image)) 8 0) (drop 12 (take 512 (drop (512 * index) image)))
-
-  pub content_next :
-      content l (blocks - index) (drop (512 * index) image)
-      ≡ held ++ content l (blocks - (index + 1)) (drop (512 * (index + 1)) image)
-  content_next =
-      ap (λ n. content l n (drop (512 * index) image)) (one_less blocks index inside)
-      ∙ ap (λ xs. held ++ content l (blocks - (index + 1)) xs) (drop_row image 512 index)
+      ap (λ n. fault_in l number blocks index n (drop (512 * index) image)) (one_less blocks index inside)
+      ∙ ap (λ xs. or_else here (fault_in l number blocks (index + 1) (blocks - (index + 1)) xs)) (drop_row image 512 index)
 
 pub length_instructions : {A : Type 0} (l : Layout A) (n : ℕ) (bytes : List ℕ) → length (instructions l n bytes) ≡ n
-length_instructions l zero bytes = refl
-length_instructions l (suc n) bytes = ap suc (length_instructions l n (drop l.width bytes))
+length_instructions l n bytes = length-map (first_chunks l.width n bytes) l.decode ∙ length_chunks l.width n bytes
 
 -- one block more at the front of a store
 pub front_grows : {X : Type 0} (store bytes rest : List X) (a k n : ℕ) → n ≡ a + length bytes → a ≤ length store

@@ -1,9 +1,10 @@
 ghost use Rattle.std.specs.Prelude.{◌≡◌, ◌+◌, ◌*◌, ◌/◌, ◌<◌, ◌≤◌, ◌++◌, length, take, drop, IfOk, FitsSigned, OnOk};
 ghost use Rattle.std.specs.Int.{w32};
 ghost use Rattle.machine.specs.Form.{formed};
+ghost use Rattle.std.specs.List.{prefix_len};
 ghost use Rattle.image.specs.Layout.{layout};
 ghost use Rattle.image.specs.Blocks.{blocks_for, image};
-ghost use Rattle.image.specs.Writing.{leading, write_reply, store_after, Words};
+ghost use Rattle.image.specs.Writing.{write_reply, store_after, Words};
 ghost use Rattle.image.specs.Laws.{ReadsAs, SixtyThree};
 
 use crate::encode::encode_block;
@@ -20,7 +21,7 @@ fn is_formed(i: Instruction) -> bool
 
 // How many instructions stand before the first that has not the form.
 fn leading_formed(code: &[Instruction]) -> usize
-    ensures value { result ≡ leading formed code.now }
+    ensures value { result ≡ prefix_len formed code.now }
     ensures words { Words code.now result }
 {
     for (k, i) in code.iter().enumerate() {
@@ -50,24 +51,15 @@ fn write_image(number: u32, code: &[Instruction], store: &mut [u8]) -> Result<us
 {
     let n = code.len();
     if n < 1 || n > LIMIT * CAPACITY {
-        return Err(Refusal {
-            reason: Reason::CodeLength,
-            place: 0,
-        });
+        return Err(Reason::CodeLength.at(0));
     }
     let formed = leading_formed(code);
     if formed != n {
-        return Err(Refusal {
-            reason: Reason::InstructionForm,
-            place: formed / CAPACITY,
-        });
+        return Err(Reason::InstructionForm.at(formed / CAPACITY));
     }
     let blocks = n.div_ceil(CAPACITY);
     if store.len() < BLOCK * blocks {
-        return Err(Refusal {
-            reason: Reason::ImageStoreTooShort,
-            place: 0,
-        });
+        return Err(Reason::ImageStoreTooShort.at(0));
     }
     write_blocks(number, code, blocks, store);
     Ok(blocks)

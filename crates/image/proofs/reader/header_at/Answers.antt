@@ -1,12 +1,29 @@
-use Rattle.std.proofs.Common.{◌*◌, ◌/◌, length, take, drop, Some, None, ap, ◌∙◌, arith}
-use Rattle.std.proofs.lemmas.Bool.{cond_below}
-use Rattle.image.specs.Reading.{header_of}
-use Rattle.image.proofs.Walks.{row_cut}
+use Rattle.std.proofs.Common.{◌≡◌, ℕ, ◌*◌, ◌/◌, ◌<◌, ◌≤◌, ltb, List, [], length, get_or, take, drop, MatchOption, IsSomeAnd, Some, None, Option, sym, ap, ◌∙◌, arith}
+use denote.Bor.{Bor}
+use Rattle.std.specs.List.{HoldsAt}
+use Rattle.std.proofs.lemmas.Bool.{cond-true, cond-false, lt-ltb, le-ltb}
+use Rattle.image.specs.declared.reader.Header.{Header}
+use Rattle.image.specs.Reading.{header_of, header_found, blocks_of}
+use Rattle.image.proofs.Chunks.{length_chunks, chunk_at}
 use Rattle.image.proofs.reader.header_at.Goals as goal
+
+module _ (image : List ℕ) (index : ℕ) (blocks : List (List ℕ)) (are : blocks ≡ blocks_of image) where
+  n : length blocks ≡ length image / 512
+  n = ap length are ∙ length_chunks 512 (length image / 512) image
+
+  found : (block : Option (Bor (List ℕ))) (header : Option Header)
+      → MatchOption block (length blocks ≤ index) (λ b. (index < length blocks) × HoldsAt (λ xs. b.now ≡ xs) blocks index)
+      → MatchOption block (header ≡ None) (λ b. IsSomeAnd header (λ h. h ≡ header_of b.now))
+      → header ≡ header_found image index
+  found None header none e =
+      e ∙ sym (cond-false (ltb index (length image / 512)) _ None (le-ltb index (length image / 512) (omega (arith, n))))
+  found (Some b) None some e = absurd e
+  found (Some b) (Some h) some e =
+      let inside : index < length image / 512 = omega (arith, n) in
+      let here : b.now ≡ take 512 (drop (512 * index) image) =
+      some.1 [] ∙ ap (λ bs. get_or bs index []) are ∙ chunk_at 512 (length image / 512) index image inside in
+      ap Some (e ∙ ap header_of here) ∙ sym (cond-true (ltb index (length image / 512)) _ None (lt-ltb index (length image / 512) inside))
 
 pub returns : goal.returns
 returns c =
-    let image = c.args.image.now in
-    let index = c.args.index in
-    ap Some (c.decoded_header.ensures ∙ ap header_of (row_cut image 512 index))
-    ∙ cond_below index (length image / 512) (Some (header_of (take 512 (drop (512 * index) image)))) None (omega arith)
+    found c.args.image.now c.args.index c.as_chunks.result.0.now c.as_chunks.ensures.front c.get.result c.map.result c.get.ensures.lookup.3 c.map.ensures.cases
