@@ -86,6 +86,7 @@ fn is_body_right(block: &[u8; BLOCK]) -> bool
 }
 
 // The instruction count of a right block, or its first fault.
+#[tactic(auto, unfolding(crate::specs::Reading::fault))]
 fn check_block(block: &[u8; BLOCK], label: Label) -> Result<usize, Refusal>
     ensures { result ≡ unless (fault layout label.number label.index label.blocks block.now) (Ok (slice_index block.now 8)) }
 {
