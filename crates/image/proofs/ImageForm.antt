@@ -15,6 +15,7 @@ use Rattle.image.specs.Reading.{four_at, instructions, fault, length_fault, imag
 use Rattle.image.specs.Laws.{ReadsAs, WrittenAs, SixtyThree}
 use Rattle.image.proofs.Sound.{Sound, length_block}
 use Rattle.image.proofs.Walks.{fault_in, content_in, length_instructions}
+use Rattle.image.proofs.Written.{split_row}
 use Rattle.image.proofs.Faults.{Count, or_else_none, right_parts, header_parts}
 use Rattle.image.proofs.BlockForm.{made_right, right_made}
 
@@ -102,14 +103,6 @@ rows_counted c n size some full r =
     let same = mul_comm n c in
     let over : size + (c - 1) ≡ n * c + (size + (c - 1) - n * c) = omega (arith, r.needed) in
     ap (λ m. m / c) over ∙ div-mul-add n c (size + (c - 1) - n * c) (omega (arith, r.enough))
-
--- a row and what follows it
-split_row : {X : Type 0} (part rest : List X) (c : ℕ) → length part ≤ c → (length part ≡ c) ⊎ (rest ≡ [])
-    → (take c (part ++ rest) ≡ part) × (drop c (part ++ rest) ≡ rest)
-split_row part rest c few (inl full) = (take_at part rest c full, drop_at part rest c full)
-split_row part rest c few (inr none) =
-    let alone : part ++ rest ≡ part = ap (λ xs. part ++ xs) none ∙ append-nil part in
-    (ap (take c) alone ∙ take_all c part few, ap (drop c) alone ∙ drop_all c part few ∙ sym none)
 
 pub same_four : (bytes : List ℕ) → four_at (take 512 bytes) 0 ≡ four_at bytes 0
 same_four bytes =

@@ -4,6 +4,7 @@ pub mod Sound
 pub mod Encoding
 pub mod Chunks
 pub mod Walks
+pub mod Written
 pub mod Faults
 pub mod BlockForm
 pub mod ImageForm

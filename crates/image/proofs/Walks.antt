@@ -12,41 +12,12 @@ use Rattle.image.specs.Blocks.{block, blocks_from}
 use Rattle.image.specs.Reading.{instructions, fault, first_fault, held}
 use Rattle.image.proofs.Chunks.{length_chunks}
 
--- the k-th row of w elements, the last perhaps shorter
-pub row : {X : Type 0} (xs : List X) (a w : ℕ)
-    → take (min (length xs) (a + w) - a) (drop a xs) ≡ take w (drop a xs)
-row xs a w = elim (cases_lt (length xs) (a + w)) [
-  | inl short ↦
-      let left : length (drop a xs) ≤ w = let n = length-drop a xs in omega arith in
-      let size : min (length xs) (a + w) - a ≡ length xs - a = omega arith in
-      ap (λ n. take n (drop a xs)) size ∙ take_rest xs a ∙ sym (take_all w (drop a xs) left)
-  | inr full ↦
-      let size : min (length xs) (a + w) - a ≡ w = omega arith in
-      ap (λ n. take n (drop a xs)) size
-]
-
 pub drop_row : {X : Type 0} (xs : List X) (w k : ℕ) → drop w (drop (w * k) xs) ≡ drop (w * (k + 1)) xs
 drop_row xs w k =
     drop-drop w (w * k) xs ∙ ap (λ n. drop n xs) (sym (ap (λ n. w * n) (add-one k) ∙ mul-suc w k))
 
-pub row_cut : {X : Type 0} (xs : List X) (w k : ℕ) → take (w * (k + 1) - w * k) (drop (w * k) xs) ≡ take w (drop (w * k) xs)
-row_cut xs w k =
-    let more : w * (k + 1) ≡ w * k + w = ap (λ n. w * n) (add-one k) ∙ mul-suc w k in
-    let size : w * (k + 1) - w * k ≡ w = omega arith in
-    ap (λ n. take n (drop (w * k) xs)) size
-
 pub one_less : (n k : ℕ) → k < n → n - k ≡ suc (n - (k + 1))
 one_less n k h = omega arith
-
-module _ {A : Type 0} (l : Layout A) (number blocks : ℕ) (code : List A) where
-  pub blocks_next : (index : ℕ) → index < blocks
-      → blocks_from l number blocks index (blocks - index) (drop (l.capacity * index) code)
-      ≡ block l number index blocks (take l.capacity (drop (l.capacity * index) code))
-      ++ blocks_from l number blocks (index + 1) (blocks - (index + 1)) (drop (l.capacity * (index + 1)) code)
-  blocks_next index h =
-      let here = block l number index blocks (take l.capacity (drop (l.capacity * index) code)) in
-      ap (λ n. blocks_from l number blocks index n (drop (l.capacity * index) code)) (one_less blocks index h)
-      ∙ ap (λ xs. here ++ blocks_from l number blocks (index + 1) (blocks - (index + 1)) xs) (drop_row code l.capacity index)
 
 -- the first fault and the code of the n blocks that some bytes begin with
 module _ {A : Type 0} (l : Layout A) where
@@ -68,13 +39,3 @@ module _ {A : Type 0} (l : Layout A) (number blocks : ℕ) (image : List ℕ) (i
 
 pub length_instructions : {A : Type 0} (l : Layout A) (n : ℕ) (bytes : List ℕ) → length (instructions l n bytes) ≡ n
 length_instructions l n bytes = length-map (first_chunks l.width n bytes) l.decode ∙ length_chunks l.width n bytes
-
--- one block more at the front of a store
-pub front_grows : {X : Type 0} (store bytes rest : List X) (a k n : ℕ) → n ≡ a + length bytes → a ≤ length store
-    → take n (put_mid a k store bytes) ++ rest ≡ take a store ++ (bytes ++ rest)
-front_grows store bytes rest a k n e h =
-    ap (λ xs. xs ++ rest) (take-put_mid a k store bytes n e h) ∙ append_assoc (take a store) bytes rest
-
-pub nothing_left : {A : Type 0} (l : Layout A) (number blocks index n : ℕ) (code : List A) → n ≡ 0
-    → blocks_from l number blocks index n code ≡ []
-nothing_left l number blocks index n code e = ap (λ k. blocks_from l number blocks index k code) e

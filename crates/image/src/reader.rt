@@ -105,7 +105,7 @@ fn check_block(block: &[u8; BLOCK], label: Label) -> Result<usize, Refusal>
 
 fn blocks_in(image: &[u8]) -> Result<&[[u8; BLOCK]], Refusal>
     ensures whole { OnOk result (length_fault layout (length image.now) ≡ None) }
-    ensures blocks { IfOk result (λ blocks. blocks.now ≡ blocks_of image.now) }
+    ensures cut { IfOk result (λ blocks. blocks.now ≡ blocks_of image.now) }
     ensures some { IfOk result (λ blocks. 1 ≤ length blocks.now) }
     ensures few { IfOk result (λ blocks. length blocks.now ≤ 794) }
     ensures err { IfErr result (λ e. length_fault layout (length image.now) ≡ Some e) }

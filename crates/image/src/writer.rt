@@ -7,8 +7,8 @@ ghost use Rattle.image.specs.Blocks.{blocks_for, image};
 ghost use Rattle.image.specs.Writing.{write_reply, store_after, Words};
 ghost use Rattle.image.specs.Laws.{ReadsAs, SixtyThree};
 
-use crate::encode::encode_block;
-use crate::layout::{BLOCK, CAPACITY, LIMIT};
+use crate::encode::encoded_block;
+use crate::layout::{BLOCK, CAPACITY, LIMIT, Label};
 use machine::instruction::Instruction;
 use refusal::{Reason, Refusal};
 
@@ -33,14 +33,19 @@ fn leading_formed(code: &[Instruction]) -> usize
 }
 
 fn write_blocks(number: u32, code: &[Instruction], blocks: usize, store: &mut [u8])
-    requires { (blocks ≡ blocks_for layout (length code.now)) × ((blocks ≤ 794) × (512 * blocks ≤ length store.old)) }
+    requires count { blocks ≡ blocks_for layout (length code.now) }
+    requires few { blocks ≤ 794 }
+    requires room { 512 * blocks ≤ length store.old }
     ensures { store.new ≡ image layout number code.now ++ drop (512 * blocks) store.old }
 {
-    for index in 0..blocks {
-        let from = CAPACITY * index;
-        let to = code.len().min(from + CAPACITY);
-        let block = &mut store[BLOCK * index..BLOCK * (index + 1)];
-        encode_block(block, number, index, blocks, &code[from..to]);
+    // After `as_chunks_mut` nothing is known of the store, so blocks go by index.
+    for (index, part) in code.chunks(CAPACITY).enumerate() {
+        let label = Label {
+            number,
+            index: index as u16,
+            blocks: blocks as u16,
+        };
+        store[BLOCK * index..BLOCK * (index + 1)].copy_from_slice(&encoded_block(label, part));
     }
 }
 

@@ -14,7 +14,7 @@ returns-in_err-count-clause-reply c =
     let room = length c.args.code.now in
     p.1 ∙ ap Err p.2
     ∙ scan_refused layout number blocks room c.in_err-count.field-0.0 c.in_err-count.ensures
-    ∙ sym (read_scanned layout c.args.image.now blocks number room c.in_ok-blocks.ensures.whole c.in_ok-blocks.ensures.blocks
+    ∙ sym (read_scanned layout c.args.image.now blocks number room c.in_ok-blocks.ensures.whole c.in_ok-blocks.ensures.cut
     c.in_ok-blocks.ensures.some (ap (λ h. h.number) c.header_in-number.ensures))
 
 pub returns-then-code-count-clause-reply : goal.returns-then-code-count-clause-reply
@@ -24,7 +24,7 @@ returns-then-code-count-clause-reply c =
     let room = length c.args.code.now in
     ap Err c.at.ensures
     ∙ scan_short layout number blocks room c.in_ok-count.count c.in_ok-count.ensures c.if-code-count.true
-    ∙ sym (read_scanned layout c.args.image.now blocks number room c.in_ok-blocks.ensures.whole c.in_ok-blocks.ensures.blocks
+    ∙ sym (read_scanned layout c.args.image.now blocks number room c.in_ok-blocks.ensures.whole c.in_ok-blocks.ensures.cut
     c.in_ok-blocks.ensures.some (ap (λ h. h.number) c.header_in-number.ensures))
 
 pub decode_blocks-requires-clause-few : goal.decode_blocks-requires-clause-few
@@ -39,5 +39,5 @@ returns-clause-reply c =
     let number = c.header_in-number.result.number in
     let room = length c.args.code.now in
     scan_read layout number blocks room c.in_ok-count.count c.in_ok-count.ensures c.if-code-count.false
-    ∙ sym (read_scanned layout c.args.image.now blocks number room c.in_ok-blocks.ensures.whole c.in_ok-blocks.ensures.blocks
+    ∙ sym (read_scanned layout c.args.image.now blocks number room c.in_ok-blocks.ensures.whole c.in_ok-blocks.ensures.cut
     c.in_ok-blocks.ensures.some (ap (λ h. h.number) c.header_in-number.ensures))
