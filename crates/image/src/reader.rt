@@ -1,4 +1,4 @@
-ghost use Rattle.std.specs.Prelude.{◌≡◌, ℕ, ◌+◌, ◌*◌, ◌/◌, ◌<◌, ◌≤◌, ◌++◌, length, take, drop, map, IfOk, IfErr, OnOk, Some, None, Ok, Err, slice_index, All};
+ghost use Rattle.std.specs.Prelude.{◌≡◌, ℕ, ◌+◌, ◌*◌, ◌/◌, ◌<◌, ◌≤◌, ◌++◌, length, take, drop, map, IfOk, IfErr, OnOk, Some, None, Ok, Err, slice_index, slice_index_or, All, []};
 ghost use Rattle.std.specs.List.{list_all, flat_map};
 ghost use Rattle.std.specs.Simd.{first_chunks};
 ghost use Rattle.machine.specs.Form.{formed};
@@ -106,6 +106,8 @@ fn check_block(block: &[u8; BLOCK], label: Label) -> Result<usize, Refusal>
 fn blocks_in(image: &[u8]) -> Result<&[[u8; BLOCK]], Refusal>
     ensures whole { OnOk result (length_fault layout (length image.now) ≡ None) }
     ensures cut { IfOk result (λ blocks. blocks.now ≡ blocks_of image.now) }
+    ensures len { IfOk result (λ blocks. length blocks.now ≡ length image.now / 512) }
+    ensures number { IfOk result (λ blocks. four_at (slice_index_or blocks.now 0 []) 0 ≡ four_at image.now 0) }
     ensures some { IfOk result (λ blocks. 1 ≤ length blocks.now) }
     ensures few { IfOk result (λ blocks. length blocks.now ≤ 794) }
     ensures err { IfErr result (λ e. length_fault layout (length image.now) ≡ Some e) }
@@ -127,7 +129,8 @@ pub fn block_count(image: &[u8]) -> Result<usize, Refusal>
 // The instruction count of an image, or its first fault in a block.
 fn check_blocks(number: u32, blocks: &[[u8; BLOCK]]) -> Result<usize, Refusal>
     requires { length blocks.now ≤ 794 }
-    ensures { result ≡ unless (first_fault layout number (length blocks.now) 0 blocks.now) (Ok (length (flat_map (held layout) blocks.now))) }
+    ensures reply { result ≡ unless (first_fault layout number (length blocks.now) 0 blocks.now) (Ok (length (flat_map (held layout) blocks.now))) }
+    ensures few { OnOk result (All (λ block. slice_index block 8 ≤ 62) blocks.now) }
 {
     let mut total = 0;
     for (index, block) in blocks.iter().enumerate() {

@@ -1,14 +1,15 @@
-use Rattle.std.proofs.Common.{length, Ok, Err, sym, ap, ◌∙◌, arith}
+use Rattle.std.proofs.Common.{◌≡◌, length, drop, None, Ok, Err, sym, ap, ◌∙◌, arith}
 use Rattle.std.specs.List.{flat_map}
+use Rattle.std.proofs.lemmas.List.{at_drop_all}
 use Rattle.std.proofs.lemmas.Result.{err_from_is_err_and}
 use Rattle.refusal.specs.Faults.{unless}
 use Rattle.image.specs.Layout.{layout}
-use Rattle.image.specs.Reading.{held}
-use Rattle.image.proofs.Scan.{stops, passes}
+use Rattle.image.specs.Reading.{first_fault, held}
+use Rattle.image.proofs.Scan.{stops, passes, all_few}
 use Rattle.image.proofs.reader.check_blocks.Goals as goal
 
-pub returns-in_err-total : goal.returns-in_err-total
-returns-in_err-total c =
+pub returns-in_err-total-clause-reply : goal.returns-in_err-total-clause-reply
+returns-in_err-total-clause-reply c =
     let p = err_from_is_err_and c.from_residual.result c.from_residual.ensures.1 in
     let blocks = c.args.blocks.now in
     let stop = stops layout c.args.number (length blocks) blocks c.loop-index.index c.loop-index-test.true c.in_err-total.field-0.0 _ c.in_err-total.ensures in
@@ -27,3 +28,11 @@ loop-index-preserved c =
       counted = omega (arith, passed.counted, c.loop-index.invariant.counted);
       few = omega (arith, passed.few_here, c.loop-index.invariant.few);
     }
+
+pub returns-clause-few : goal.returns-clause-few
+returns-clause-few c =
+    let blocks = c.args.blocks.now in
+    let n = length blocks in
+    let none : first_fault layout c.args.number n c.loop-index.index (drop c.loop-index.index blocks) ≡ None =
+    at_drop_all (first_fault layout c.args.number n c.loop-index.index) blocks c.loop-index.index c.loop-index-test.false in
+    all_few layout c.args.number n 0 blocks (sym c.loop-index.invariant.faults ∙ none)
