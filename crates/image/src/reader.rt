@@ -108,8 +108,6 @@ fn blocks_in(image: &[u8]) -> Result<&[[u8; BLOCK]], Refusal>
     ensures cut { IfOk result (λ blocks. blocks.now ≡ blocks_of image.now) }
     ensures len { IfOk result (λ blocks. length blocks.now ≡ length image.now / 512) }
     ensures number { IfOk result (λ blocks. four_at (slice_index_or blocks.now 0 []) 0 ≡ four_at image.now 0) }
-    ensures some { IfOk result (λ blocks. 1 ≤ length blocks.now) }
-    ensures few { IfOk result (λ blocks. length blocks.now ≤ 794) }
     ensures err { IfErr result (λ e. length_fault layout (length image.now) ≡ Some e) }
 {
     let (blocks, rest) = image.as_chunks::<BLOCK>();
