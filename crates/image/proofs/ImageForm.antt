@@ -4,6 +4,7 @@ use Rattle.std.specs.List.{AllByRecursion, prefix_len, list_all}
 use Rattle.std.proofs.lemmas.Nat.{div-mul-add, div-add-mod', mod_below, mul-le}
 use Rattle.std.proofs.ByRecursion.{All-take, All-drop}
 use Rattle.std.proofs.lemmas.List.{append-nil, take_at, drop_at, take_all, drop_all, take-append-drop, length-take-le, get_or-take, nil_from_length}
+use Rattle.std.proofs.lemmas.List.Folds.{list_all-append}
 use Rattle.std.proofs.lemmas.Bool.{and_parts, and_from, eq-eqb, le-leb, leb-true, eqb-true, cases_lt, cases_Bool, cond-true, cond-false}
 use Rattle.refusal.specs.declared.Refusal.{Refusal}
 use Rattle.crc.specs.Crc.{Bytes}
@@ -21,18 +22,9 @@ use Rattle.image.proofs.BlockForm.{made_right, right_made}
 
 all_split : {X : Type 0} (test : X → Bool) (n : ℕ) (xs : List X) → list_all test xs ≡ true
     → (list_all test (take n xs) ≡ true) × (list_all test (drop n xs) ≡ true)
-all_split test zero xs e = (refl, e)
-all_split test (suc n) [] e = (refl, refl)
-all_split test (suc n) (x ∷ xs) e =
-    let both = and_parts (test x) (list_all test xs) e in
-    let rest = all_split test n xs both.1 in
-    (and_from (test x) _ both.0 rest.0, rest.1)
-
-all_join : {X : Type 0} (test : X → Bool) (xs ys : List X) → list_all test xs ≡ true → list_all test ys ≡ true → list_all test (xs ++ ys) ≡ true
-all_join test [] ys p q = q
-all_join test (x ∷ xs) ys p q =
-    let both = and_parts (test x) (list_all test xs) p in
-    and_from (test x) _ both.0 (all_join test xs ys both.1 q)
+all_split test n xs e =
+    and_parts (list_all test (take n xs)) _
+    (sym (list_all-append test (take n xs) (drop n xs)) ∙ ap (list_all test) (take-append-drop n xs) ∙ e)
 
 all_leading : {X : Type 0} (test : X → Bool) (xs : List X) → list_all test xs ≡ true → prefix_len test xs ≡ length xs
 all_leading test [] e = refl
@@ -195,7 +187,8 @@ module _ {A : Type 0} (l : Layout A) (s : Sound l) (number blocks : ℕ) where
             ∙ ap (λ xs. block l number index blocks part ++ xs) ih.0
             ∙ ap (λ xs. block l number index blocks xs ++ blocks_from l number blocks (index + 1) n rest) (sym row.0)
             ∙ ap (λ xs. block l number index blocks (take c (part ++ rest)) ++ blocks_from l number blocks (index + 1) n xs) (sym row.1),
-        all_join l.formed part rest (and_parts (list_all l.formed part) _ tests.2).0 ih.1,
+        list_all-append l.formed part rest
+            ∙ and_from (list_all l.formed part) _ (and_parts (list_all l.formed part) _ tests.2).0 ih.1,
         record { enough = omega (arith, ih.2.enough, count.few); needed = omega (arith, needed) },
       )
 

@@ -9,7 +9,7 @@ use Rattle.refusal.specs.Faults.{refusal, unless, or_else}
 use Rattle.image.specs.Layout.{Layout}
 use Rattle.image.specs.Reading.{four_at, fault, first_fault, held, blocks_of, length_fault, read_reply}
 use Rattle.image.proofs.Pieces.{joined_next}
-use Rattle.image.proofs.Chunks.{length_chunks, chunk_at}
+use Rattle.image.proofs.Chunks.{length-first_chunks, get_or-first_chunks}
 use Rattle.image.proofs.Walks.{length_instructions}
 use Rattle.image.proofs.Faults.{refused_by, passed_by, or_else_none, right_parts, header_parts}
 use Rattle.image.proofs.ImageForm.{same_four}

@@ -10,7 +10,7 @@ use Rattle.std.specs.Simd.{first_chunks}
 use Rattle.image.specs.Layout.{Layout}
 use Rattle.image.specs.Blocks.{block, blocks_from}
 use Rattle.image.specs.Reading.{instructions, fault, first_fault, held}
-use Rattle.image.proofs.Chunks.{length_chunks}
+use Rattle.image.proofs.Chunks.{length-first_chunks}
 
 pub drop_row : {X : Type 0} (xs : List X) (w k : ℕ) → drop w (drop (w * k) xs) ≡ drop (w * (k + 1)) xs
 drop_row xs w k =
@@ -38,4 +38,4 @@ module _ {A : Type 0} (l : Layout A) (number blocks : ℕ) (image : List ℕ) (i
       ∙ ap (λ xs. or_else here (fault_in l number blocks (index + 1) (blocks - (index + 1)) xs)) (drop_row image 512 index)
 
 pub length_instructions : {A : Type 0} (l : Layout A) (n : ℕ) (bytes : List ℕ) → length (instructions l n bytes) ≡ n
-length_instructions l n bytes = length-map (first_chunks l.width n bytes) l.decode ∙ length_chunks l.width n bytes
+length_instructions l n bytes = length-map (first_chunks l.width n bytes) l.decode ∙ length-first_chunks l.width n bytes

@@ -1,4 +1,4 @@
-use Rattle.std.specs.Prelude.{ℕ, ◌+◌, ◌*◌, ◌/◌, ◌%◌, ◌^◌, Bool, not, if◌then◌else◌, ◌&&◌, List, [], ◌∷◌, ◌++◌, length, take, drop, map, Some, None, Ok, Err, Option, Result, ◌==◌, nat_le, nat_lt, slice_index, slice_index_or}
+use Rattle.std.specs.Prelude.{ℕ, ◌+◌, ◌*◌, ◌/◌, ◌%◌, ◌^◌, Bool, not, if◌then◌else◌, ◌&&◌, List, [], ◌∷◌, ◌++◌, length, take, drop, map, Some, None, Ok, Err, Option, Result, ◌==◌, nat_le, nat_lt, slice_index}
 use Rattle.std.specs.List.{list_all, flat_map}
 use Rattle.std.specs.Simd.{first_chunks}
 use Rattle.refusal.specs.declared.Refusal.{Refusal}
@@ -32,6 +32,7 @@ header_found image index =
 abbrev pub all_zero : List ℕ → Bool
 all_zero = list_all (λ b. b == 0)
 
+-- the blocks of an image
 abbrev pub blocks_of : List ℕ → List (List ℕ)
 blocks_of image = first_chunks 512 (length image / 512) image
 
@@ -39,6 +40,10 @@ module _ {A : Type 0} (l : Layout A) where
   -- the first n instructions of some bytes
   abbrev pub instructions : ℕ → List ℕ → List A
   instructions n bs = map l.decode (first_chunks l.width n bs)
+
+  -- the instructions that a block holds
+  abbrev pub held : List ℕ → List A
+  held block = instructions (slice_index block 8) (drop 12 block)
 
   -- every block but the last is full, and the last has at least one instruction
   abbrev pub count_right : ℕ → ℕ → ℕ → Bool
@@ -58,9 +63,7 @@ module _ {A : Type 0} (l : Layout A) where
   -- each instruction has the form, and what follows them up to the check is zero
   abbrev pub body_right : List ℕ → Bool
   body_right block =
-      let count : ℕ = slice_index_or block 8 0 in
-      list_all l.formed (instructions count (drop 12 block))
-      && all_zero (drop (12 + l.width * count) (take 510 block))
+      list_all l.formed (held block) && all_zero (drop (12 + l.width * slice_index block 8) (take 510 block))
 
   -- the first fault of one block
   unfoldable pub fault : ℕ → ℕ → ℕ → List ℕ → Option Refusal
@@ -75,10 +78,6 @@ module _ {A : Type 0} (l : Layout A) where
   first_fault number blocks index [] = None
   first_fault number blocks index (block ∷ later) =
       or_else (fault number index blocks block) (first_fault number blocks (index + 1) later)
-
-  -- the instructions that a block holds
-  abbrev pub held : List ℕ → List A
-  held block = instructions (slice_index block 8) (drop 12 block)
 
   -- the fault of an image of so many bytes that are not 1 to limit whole blocks
   abbrev pub length_fault : ℕ → Option Refusal

@@ -17,9 +17,9 @@ module _ {A : Type 0} (l : Layout A) where
   abbrev pub write_reply : List A → ℕ → Result ℕ Refusal
   write_reply code room =
       let n : ℕ = length code in
-      let well : ℕ = prefix_len l.formed code in
+      let formed : ℕ = prefix_len l.formed code in
       if not (nat_le 1 n && nat_le n (l.limit * l.capacity)) then Err (refusal CodeLength 0)
-      else if not (well == n) then Err (refusal InstructionForm (well / l.capacity))
+      else if not (formed == n) then Err (refusal InstructionForm (formed / l.capacity))
       else if not (nat_le (512 * blocks_for l n) room) then Err (refusal ImageStoreTooShort 0)
       else Ok (blocks_for l n)
 

@@ -30,12 +30,10 @@ impl Label {
         ensures { result ≡ count_right layout self.index self.blocks count }
     {
         let count = usize::from(count);
-        if count < 1 {
-            false
-        } else if usize::from(self.index) + 1 < usize::from(self.blocks) {
+        if usize::from(self.index) + 1 < usize::from(self.blocks) {
             count == CAPACITY
         } else {
-            count <= CAPACITY
+            (1..=CAPACITY).contains(&count)
         }
     }
 }

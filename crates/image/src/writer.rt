@@ -12,6 +12,7 @@ use crate::layout::{BLOCK, CAPACITY, LIMIT, Label};
 use machine::instruction::Instruction;
 use refusal::{Reason, Refusal};
 
+// By value, so that the range of `d` is known.
 fn is_formed(i: Instruction) -> bool
     ensures value { result ≡ formed i }
     ensures word { FitsSigned w32 i.d }
@@ -24,12 +25,7 @@ fn leading_formed(code: &[Instruction]) -> usize
     ensures value { result ≡ prefix_len formed code.now }
     ensures words { Words code.now result }
 {
-    for (k, i) in code.iter().enumerate() {
-        if !is_formed(*i) {
-            return k;
-        }
-    }
-    code.len()
+    code.iter().take_while(|i| is_formed(**i)).count()
 }
 
 fn write_blocks(number: u32, code: &[Instruction], blocks: usize, store: &mut [u8])

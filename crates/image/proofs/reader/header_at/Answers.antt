@@ -4,12 +4,12 @@ use Rattle.std.specs.List.{HoldsAt}
 use Rattle.std.proofs.lemmas.Bool.{cond-true, cond-false, lt-ltb, le-ltb}
 use Rattle.image.specs.declared.reader.Header.{Header}
 use Rattle.image.specs.Reading.{header_of, header_found, blocks_of}
-use Rattle.image.proofs.Chunks.{length_chunks, chunk_at}
+use Rattle.image.proofs.Chunks.{length-first_chunks, get_or-first_chunks}
 use Rattle.image.proofs.reader.header_at.Goals as goal
 
 module _ (image : List ℕ) (index : ℕ) (blocks : List (List ℕ)) (are : blocks ≡ blocks_of image) where
   n : length blocks ≡ length image / 512
-  n = ap length are ∙ length_chunks 512 (length image / 512) image
+  n = ap length are ∙ length-first_chunks 512 (length image / 512) image
 
   found : (block : Option (Bor (List ℕ))) (header : Option Header)
       → MatchOption block (length blocks ≤ index) (λ b. (index < length blocks) × HoldsAt (λ xs. b.now ≡ xs) blocks index)
@@ -21,7 +21,7 @@ module _ (image : List ℕ) (index : ℕ) (blocks : List (List ℕ)) (are : bloc
   found (Some b) (Some h) some e =
       let inside : index < length image / 512 = omega (arith, n) in
       let here : b.now ≡ take 512 (drop (512 * index) image) =
-      some.1 [] ∙ ap (λ bs. get_or bs index []) are ∙ chunk_at 512 (length image / 512) index image inside in
+      some.1 [] ∙ ap (λ bs. get_or bs index []) are ∙ get_or-first_chunks 512 (length image / 512) index image inside in
       ap Some (e ∙ ap header_of here) ∙ sym (cond-true (ltb index (length image / 512)) _ None (lt-ltb index (length image / 512) inside))
 
 pub returns : goal.returns
