@@ -1,18 +1,14 @@
 -- A walk along the blocks of an image.
-use Rattle.std.proofs.Common.{◌≡◌, ℕ, zero, suc, ◌+◌, ◌*◌, ◌/◌, ◌<◌, ◌≤◌, List, [], ◌∷◌, ◌++◌, length, get_or, take, drop, All, Some, None, Ok, Err, Option, Result, cond, leb, sym, ap, ◌∙◌, arith, length-append}
+use Rattle.std.proofs.Common.{◌≡◌, ℕ, zero, suc, ◌+◌, ◌<◌, ◌≤◌, List, [], ◌∷◌, length, get_or, take, drop, All, Some, None, Ok, Err, sym, ap, ◌∙◌, arith, length-append}
 use Rattle.std.specs.List.{flat_map}
 use Rattle.std.proofs.lemmas.List.{at_drop_more}
-use Rattle.std.proofs.lemmas.Bool.{cond-true, cond-false, le-leb, lt-leb}
 use Rattle.refusal.specs.declared.Refusal.{Refusal}
-use Rattle.refusal.specs.declared.Reason.TheVariants.{CodeStoreTooShort}
-use Rattle.refusal.specs.Faults.{refusal, unless, or_else}
+use Rattle.refusal.specs.Faults.{unless, or_else}
 use Rattle.image.specs.Layout.{Layout}
-use Rattle.image.specs.Reading.{four_at, fault, first_fault, held, blocks_of, length_fault, read_reply}
+use Rattle.image.specs.Reading.{fault, first_fault, held}
 use Rattle.image.proofs.Pieces.{joined_next}
-use Rattle.image.proofs.Chunks.{length-first_chunks, get_or-first_chunks}
 use Rattle.image.proofs.Walks.{length_instructions}
 use Rattle.image.proofs.Faults.{refused_by, passed_by, or_else_none, right_parts, header_parts}
-use Rattle.image.proofs.ImageForm.{same_four}
 
 few : {A : Type 0} (l : Layout A) (number index blocks : ℕ) (block : List ℕ) → fault l number index blocks block ≡ None
     → get_or block 8 0 ≤ l.capacity

@@ -12,26 +12,6 @@ use crc::is_sealed;
 use machine::instruction::Instruction;
 use refusal::{Reason, Refusal};
 
-fn decoded(bytes: &[u8; WIDTH]) -> Instruction
-    ensures { result ≡ decode bytes.now }
-{
-    let [op, r, s, t, d0, d1, d2, d3] = *bytes;
-    let d = i32::from_be_bytes([d0, d1, d2, d3]);
-    Instruction { op, r, s, t, d }
-}
-
-fn are_formed(slots: &[[u8; WIDTH]]) -> bool
-    ensures { result ≡ list_all (λ slot. formed (decode slot)) slots.now }
-{
-    slots.iter().all(|slot| decoded(slot).has_form())
-}
-
-fn are_zero(bytes: &[u8]) -> bool
-    ensures { result ≡ all_zero bytes.now }
-{
-    bytes.iter().all(|b| *b == 0)
-}
-
 // What the header and the last two bytes of a block hold.
 #[derive(Clone, Copy, PartialEq, Eq, Debug)]
 pub struct Header {
@@ -52,6 +32,55 @@ fn header_in(block: &[u8; BLOCK]) -> Header
         count: block[8],
         check: u16::from_be_bytes([block[COVERED], block[COVERED + 1]]),
     }
+}
+
+// The header of the block of this index, if the image is long enough to have one.
+pub fn header_at(image: &[u8], index: usize) -> Option<Header>
+    ensures { result ≡ header_found image.now index }
+{
+    let (blocks, _) = image.as_chunks::<BLOCK>();
+    blocks.get(index).map(header_in)
+}
+
+fn blocks_in(image: &[u8]) -> Result<&[[u8; BLOCK]], Refusal>
+    ensures whole { OnOk result (length_fault layout (length image.now) ≡ None) }
+    ensures cut { IfOk result (λ blocks. blocks.now ≡ blocks_of image.now) }
+    ensures len { IfOk result (λ blocks. length blocks.now ≡ length image.now / 512) }
+    ensures number { IfOk result (λ blocks. four_at (slice_index_or blocks.now 0 []) 0 ≡ four_at image.now 0) }
+    ensures err { IfErr result (λ e. length_fault layout (length image.now) ≡ Some e) }
+{
+    let (blocks, rest) = image.as_chunks::<BLOCK>();
+    if !rest.is_empty() || blocks.is_empty() || blocks.len() > LIMIT {
+        return Err(Reason::ImageLength.at(0));
+    }
+    Ok(blocks)
+}
+
+// The number of blocks of an image.
+pub fn block_count(image: &[u8]) -> Result<usize, Refusal>
+    ensures { result ≡ unless (length_fault layout (length image.now)) (Ok (length image.now / 512)) }
+{
+    Ok(blocks_in(image)?.len())
+}
+
+fn decoded(bytes: &[u8; WIDTH]) -> Instruction
+    ensures { result ≡ decode bytes.now }
+{
+    let [op, r, s, t, d0, d1, d2, d3] = *bytes;
+    let d = i32::from_be_bytes([d0, d1, d2, d3]);
+    Instruction { op, r, s, t, d }
+}
+
+fn are_formed(slots: &[[u8; WIDTH]]) -> bool
+    ensures { result ≡ list_all (λ slot. formed (decode slot)) slots.now }
+{
+    slots.iter().all(|slot| decoded(slot).has_form())
+}
+
+fn are_zero(bytes: &[u8]) -> bool
+    ensures { result ≡ all_zero bytes.now }
+{
+    bytes.iter().all(|b| *b == 0)
 }
 
 fn is_header_right(block: &[u8; BLOCK], label: Label) -> bool
@@ -103,27 +132,6 @@ fn check_block(block: &[u8; BLOCK], label: Label) -> Result<usize, Refusal>
     Ok(usize::from(block[8]))
 }
 
-fn blocks_in(image: &[u8]) -> Result<&[[u8; BLOCK]], Refusal>
-    ensures whole { OnOk result (length_fault layout (length image.now) ≡ None) }
-    ensures cut { IfOk result (λ blocks. blocks.now ≡ blocks_of image.now) }
-    ensures len { IfOk result (λ blocks. length blocks.now ≡ length image.now / 512) }
-    ensures number { IfOk result (λ blocks. four_at (slice_index_or blocks.now 0 []) 0 ≡ four_at image.now 0) }
-    ensures err { IfErr result (λ e. length_fault layout (length image.now) ≡ Some e) }
-{
-    let (blocks, rest) = image.as_chunks::<BLOCK>();
-    if !rest.is_empty() || blocks.is_empty() || blocks.len() > LIMIT {
-        return Err(Reason::ImageLength.at(0));
-    }
-    Ok(blocks)
-}
-
-// The number of blocks of an image.
-pub fn block_count(image: &[u8]) -> Result<usize, Refusal>
-    ensures { result ≡ unless (length_fault layout (length image.now)) (Ok (length image.now / 512)) }
-{
-    Ok(blocks_in(image)?.len())
-}
-
 // The instruction count of an image, or its first fault in a block.
 fn check_blocks(number: u32, blocks: &[[u8; BLOCK]]) -> Result<usize, Refusal>
     requires { length blocks.now ≤ 794 }
@@ -142,6 +150,7 @@ fn check_blocks(number: u32, blocks: &[[u8; BLOCK]]) -> Result<usize, Refusal>
     Ok(total)
 }
 
+// After `zip` nothing is known of the instructions, so slots go by index.
 fn decode_part(slots: &[[u8; WIDTH]], part: &mut [Instruction])
     requires { length part.old ≡ length slots.now }
     ensures { part.new ≡ map decode slots.now }
@@ -187,12 +196,4 @@ pub fn read(image: &[u8], code: &mut [Instruction]) -> Result<usize, Refusal>
     ensures damage { DamageFound layout image.now result }
 {
     read_image(image, code)
-}
-
-// The header of the block of this index, if the image is long enough to have one.
-pub fn header_at(image: &[u8], index: usize) -> Option<Header>
-    ensures { result ≡ header_found image.now index }
-{
-    let (blocks, _) = image.as_chunks::<BLOCK>();
-    blocks.get(index).map(header_in)
 }

@@ -9,5 +9,5 @@ invariant-loop-index l = record {
   faults : first_fault layout l.number (length l.blocks) l.index (drop l.index l.blocks)
       ≡ first_fault layout l.number (length l.blocks) 0 l.blocks;
   counted : l.total ≡ length (flat_map (held layout) (take l.index l.blocks));
-  few : l.total ≤ 62 * l.index
+  few : l.total ≤ 62 * l.index;
 }

@@ -8,5 +8,5 @@ abbrev pub invariant-loop-block : goal.invariant-loop-block
 invariant-loop-block l = record {
   counted : l.at ≡ length (flat_map (held layout) (take l.block-index l.blocks));
   front : take l.at l.code ≡ flat_map (held layout) (take l.block-index l.blocks);
-  rest : drop l.at l.code ≡ drop l.at l.initial.code
+  rest : drop l.at l.code ≡ drop l.at l.initial.code;
 }

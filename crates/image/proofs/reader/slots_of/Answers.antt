@@ -1,4 +1,4 @@
-use Rattle.std.proofs.Common.{◌≡◌, ◌-◌, ◌/◌, length, get_or, take, drop, ap, ◌∙◌, arith, length-drop, length-take}
+use Rattle.std.proofs.Common.{◌≡◌, ◌/◌, length, get_or, take, drop, ap, ◌∙◌, arith, length-drop, length-take}
 use Rattle.std.specs.Simd.{first_chunks}
 use Rattle.image.proofs.Chunks.{take-first_chunks, first_chunks-take}
 use Rattle.image.proofs.reader.slots_of.Goals as goal

@@ -13,5 +13,5 @@ invariant-loop-index l =
       size : chunks_size (enumerate_source l.index-iterator) ≡ 62;
       rest : chunks_rest (enumerate_source l.index-iterator) ≡ drop (62 * n) l.code;
       inside : n ≤ l.blocks;
-      written : Written layout sound l.number l.blocks l.code l.initial.store n l.store
+      written : Written layout sound l.number l.blocks l.code l.initial.store n l.store;
     }
