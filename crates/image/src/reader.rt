@@ -1,4 +1,5 @@
 ghost use Rattle.std.specs.Prelude.{◌≡◌, ℕ, ◌+◌, ◌*◌, ◌/◌, ◌<◌, ◌≤◌, ◌++◌, length, take, drop, map, IfOk, IfErr, OnOk, Some, None, Ok, Err, slice_index, slice_index_or, All, []};
+ghost use Rattle.std.specs.Bool.{OnTrue};
 ghost use Rattle.std.specs.List.{list_all, flat_map};
 ghost use Rattle.std.specs.Simd.{first_chunks};
 ghost use Rattle.machine.specs.Form.{formed};
@@ -84,7 +85,8 @@ fn are_zero(bytes: &[u8]) -> bool
 }
 
 fn is_header_right(block: &[u8; BLOCK], label: Label) -> bool
-    ensures { result ≡ header_right layout label.number label.index label.blocks block.now }
+    ensures right { result ≡ header_right layout label.number label.index label.blocks block.now }
+    ensures few { OnTrue result (slice_index block.now 8 ≤ 62) }
 {
     let header = header_in(block);
     header.number == label.number
