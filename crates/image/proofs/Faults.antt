@@ -20,15 +20,6 @@ no_fault index true true false e = let z : ◌≡◌ {A = ℕ} 0 1 = cc in absur
 no_fault index true false c e = let z : ◌≡◌ {A = ℕ} 0 1 = cc in absurd (omega arith)
 no_fault index false b c e = let z : ◌≡◌ {A = ℕ} 0 1 = cc in absurd (omega arith)
 
--- an answer that is there exactly where a test holds
-pub there : (b : Bool) (m n : ℕ) → Some m ≡ cond b (Some n) None → (b ≡ true) × (m ≡ n)
-there true m n e = (refl, cc)
-there false m n e = let z : ◌≡◌ {A = ℕ} 0 1 = cc in absurd (omega arith)
-
-pub missing : (b : Bool) (n : ℕ) → None ≡ cond b (Some n) None → b ≡ false
-missing true n e = let z : ◌≡◌ {A = ℕ} 0 1 = cc in absurd (omega arith)
-missing false n e = refl
-
 pub refused_by : {X : Type 0} (f : Option Refusal) (e : Refusal) (x : X) → Err e ≡ unless f (Ok x) → f ≡ Some e
 refused_by None e x h = let z : ◌≡◌ {A = ℕ} 0 1 = cc in absurd (omega arith)
 refused_by (Some f) e x h = cc

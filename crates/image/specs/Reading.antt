@@ -1,4 +1,5 @@
-use Rattle.std.specs.Prelude.{ℕ, ◌+◌, ◌*◌, ◌/◌, ◌%◌, ◌^◌, Bool, not, if◌then◌else◌, ◌&&◌, List, [], ◌∷◌, ◌++◌, length, take, drop, map, Some, None, Ok, Err, Option, Result, ◌==◌, nat_le, nat_lt, slice_index}
+use Rattle.std.specs.Prelude.{ℕ, ◌+◌, ◌*◌, ◌/◌, ◌%◌, ◌^◌, Bool, not, if◌then◌else◌, ◌&&◌, List, [], ◌∷◌, ◌++◌, length, take, drop, map, Some, None, Ok, Err, Option, Result, ◌==◌, nat_le, nat_lt, slice_get, slice_index}
+use Rattle.std.specs.Option.{option_map}
 use Rattle.std.specs.List.{list_all, flat_map}
 use Rattle.std.specs.Simd.{first_chunks}
 use Rattle.refusal.specs.declared.Refusal.{Refusal}
@@ -24,17 +25,16 @@ header_of block = record {
   check = two_at block 510;
 }
 
--- the header and the check of the block of this index, if there is one
-abbrev pub header_found : List ℕ → ℕ → Option Header
-header_found image index =
-    if nat_lt index (length image / 512) then Some (header_of (take 512 (drop (512 * index) image))) else None
-
 abbrev pub all_zero : List ℕ → Bool
 all_zero = list_all (λ b. b == 0)
 
 -- the blocks of an image
 abbrev pub blocks_of : List ℕ → List (List ℕ)
 blocks_of image = first_chunks 512 (length image / 512) image
+
+-- the header and the check of the block of this index, if there is one
+abbrev pub header_found : List ℕ → ℕ → Option Header
+header_found image index = option_map header_of (slice_get (blocks_of image) index)
 
 module _ {A : Type 0} (l : Layout A) where
   -- the first n instructions of some bytes
@@ -73,7 +73,7 @@ module _ {A : Type 0} (l : Layout A) where
       else if not (body_right block) then Some (refusal InstructionForm index)
       else None
 
-  -- the first fault of some blocks, of which the first has this index
+  -- the first fault of the blocks from the one of this index on
   abbrev pub first_fault : ℕ → ℕ → ℕ → List (List ℕ) → Option Refusal
   first_fault number blocks index [] = None
   first_fault number blocks index (block ∷ later) =

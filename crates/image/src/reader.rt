@@ -26,12 +26,13 @@ pub struct Header {
 fn header_in(block: &[u8; BLOCK]) -> Header
     ensures { result ≡ header_of block.now }
 {
+    let [n0, n1, n2, n3, i0, i1, b0, b1, count, .., c0, c1] = *block;
     Header {
-        number: u32::from_be_bytes([block[0], block[1], block[2], block[3]]),
-        index: u16::from_be_bytes([block[4], block[5]]),
-        blocks: u16::from_be_bytes([block[6], block[7]]),
-        count: block[8],
-        check: u16::from_be_bytes([block[COVERED], block[COVERED + 1]]),
+        number: u32::from_be_bytes([n0, n1, n2, n3]),
+        index: u16::from_be_bytes([i0, i1]),
+        blocks: u16::from_be_bytes([b0, b1]),
+        count,
+        check: u16::from_be_bytes([c0, c1]),
     }
 }
 
