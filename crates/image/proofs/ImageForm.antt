@@ -210,13 +210,13 @@ accepts n a b c x y z p q r =
 -- a reply that is no refusal passed every test
 accepted : (r n : ℕ) (a b c : Bool) (x y z : Refusal) → Ok r ≡ replied n a b c x y z → (a ≡ true) × (b ≡ true) × (r ≡ n)
 accepted r n true true true x y z e = (refl, refl, cc)
-accepted r n true true false x y z e = let z : ◌≡◌ {A = ℕ} 0 1 = cc in absurd (omega arith)
-accepted r n true false c x y z e = let z : ◌≡◌ {A = ℕ} 0 1 = cc in absurd (omega arith)
-accepted r n false b c x y z e = let z : ◌≡◌ {A = ℕ} 0 1 = cc in absurd (omega arith)
+accepted r n true true false x y z e = absurd (cc)
+accepted r n true false c x y z e = absurd (cc)
+accepted r n false b c x y z e = absurd (cc)
 
 there : {X : Type 0} (b : Bool) (x : X) → cond b None (Some x) ≡ None → b ≡ true
 there true x e = refl
-there false x e = let z : ◌≡◌ {A = ℕ} 0 1 = cc in absurd (omega arith)
+there false x e = absurd (cc)
 
 module _ {A : Type 0} (l : Layout A) (s : Sound l) where
   length_right : (size n : ℕ) → size ≡ 512 * n → 1 ≤ n → n ≤ l.limit → length_fault l size ≡ None
@@ -294,8 +294,8 @@ module _ {A : Type 0} (l : Layout A) (s : Sound l) where
 
   read_accepted : (f : Option Refusal) (r n : ℕ) (b : Bool) (x : Refusal) → Ok r ≡ unless f (cond b (Ok n) (Err x)) → (f ≡ None) × (r ≡ n)
   read_accepted None r n true x e = (refl, cc)
-  read_accepted None r n false x e = let z : ◌≡◌ {A = ℕ} 0 1 = cc in absurd (omega arith)
-  read_accepted (Some f) r n b x e = let z : ◌≡◌ {A = ℕ} 0 1 = cc in absurd (omega arith)
+  read_accepted None r n false x e = absurd (cc)
+  read_accepted (Some f) r n b x e = absurd (cc)
 
   pub write_read : (number : ℕ) (code : List A) (before after : List ℕ) (r : Result ℕ Refusal) → number < 2 ^ 32
       → IfOk r (λ _. AllByRecursion (λ a. l.decode (l.encode a) ≡ a) code)

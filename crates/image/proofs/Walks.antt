@@ -1,3 +1,4 @@
+-- A walk along the bytes of an image, block by block.
 use Rattle.std.proofs.Common.{◌≡◌, ℕ, suc, ◌+◌, ◌-◌, ◌*◌, ◌<◌, List, length, take, drop, Option, sym, ap, ◌∙◌, mul-suc, add-one, arith}
 use Rattle.std.proofs.lemmas.List.{drop-drop, length-map}
 use Rattle.refusal.specs.declared.Refusal.{Refusal}
