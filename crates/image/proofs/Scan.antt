@@ -5,7 +5,7 @@ use Rattle.std.proofs.lemmas.List.{at_drop_more}
 use Rattle.refusal.specs.declared.Refusal.{Refusal}
 use Rattle.refusal.specs.Faults.{unless, or_else}
 use Rattle.image.specs.Layout.{Layout}
-use Rattle.image.specs.Reading.{fault, first_fault, held}
+use Rattle.image.specs.Reading.{fault, first_fault, held, content}
 use Rattle.image.proofs.Pieces.{joined_next}
 use Rattle.image.proofs.Walks.{length_instructions}
 use Rattle.image.proofs.Faults.{refused_by, passed_by, or_else_none, right_parts, header_parts}
@@ -30,14 +30,14 @@ module _ {A : Type 0} (l : Layout A) (number n : ℕ) where
 
     pub record Passed (m : ℕ) : Type 0 where
       pub onward : first_fault l number n (i + 1) (drop (i + 1) blocks) ≡ first_fault l number n i (drop i blocks)
-      pub counted : length (flat_map (held l) (take (i + 1) blocks)) ≡ length (flat_map (held l) (take i blocks)) + m
+      pub counted : length (content l (take (i + 1) blocks)) ≡ length (content l (take i blocks)) + m
       pub few_here : m ≤ l.capacity
 
     pub passes : (m : ℕ) → Ok m ≡ unless (fault l number i n here) (Ok (get_or here 8 0)) → Passed m
     passes m passed =
         let both = passed_by (fault l number i n here) m (get_or here 8 0) passed in
         let grown = ap length (joined_next (held l) blocks i [] inside) in
-        let more = length-append (flat_map (held l) (take i blocks)) (held l here) in
+        let more = length-append (content l (take i blocks)) (held l here) in
         let size = length_instructions l (get_or here 8 0) (drop 12 here) in
         let short = few l number i n here both.0 in
         record {

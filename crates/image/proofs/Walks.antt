@@ -6,7 +6,7 @@ use Rattle.refusal.specs.Faults.{or_else}
 use Rattle.std.specs.List.{flat_map}
 use Rattle.std.specs.Simd.{first_chunks}
 use Rattle.image.specs.Layout.{Layout}
-use Rattle.image.specs.Reading.{instructions, fault, first_fault, held}
+use Rattle.image.specs.Reading.{instructions, fault, first_fault, content}
 use Rattle.image.proofs.Chunks.{length-first_chunks}
 
 pub drop_row : {X : Type 0} (xs : List X) (w k : ℕ) → drop w (drop (w * k) xs) ≡ drop (w * (k + 1)) xs
@@ -22,7 +22,7 @@ module _ {A : Type 0} (l : Layout A) where
   fault_in number blocks index n bytes = first_fault l number blocks index (first_chunks 512 n bytes)
 
   abbrev pub content_in : ℕ → List ℕ → List A
-  content_in n bytes = flat_map (held l) (first_chunks 512 n bytes)
+  content_in n bytes = content l (first_chunks 512 n bytes)
 
 module _ {A : Type 0} (l : Layout A) (number blocks : ℕ) (image : List ℕ) (index : ℕ) (inside : index < blocks) where
   pub first_fault_next :

@@ -45,6 +45,9 @@ module _ {A : Type 0} (l : Layout A) where
   abbrev pub held : List ℕ → List A
   held block = instructions (slice_index block 8) (drop 12 block)
 
+  abbrev pub content : List (List ℕ) → List A
+  content = flat_map held
+
   -- every block but the last is full, and the last has at least one instruction
   abbrev pub count_right : ℕ → ℕ → ℕ → Bool
   count_right index blocks count =
@@ -90,7 +93,7 @@ module _ {A : Type 0} (l : Layout A) where
       or_else (length_fault (length image)) (first_fault (four_at image 0) (length image / 512) 0 (blocks_of image))
 
   abbrev pub code_of : List ℕ → List A
-  code_of image = flat_map held (blocks_of image)
+  code_of image = content (blocks_of image)
 
   -- what read answers for an image and a code store of so many places
   abbrev pub read_reply : List ℕ → ℕ → Result ℕ Refusal

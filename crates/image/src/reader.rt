@@ -5,7 +5,7 @@ ghost use Rattle.std.specs.Simd.{first_chunks};
 ghost use Rattle.machine.specs.Form.{formed};
 ghost use Rattle.refusal.specs.Faults.{unless};
 ghost use Rattle.image.specs.Layout.{decode, layout};
-ghost use Rattle.image.specs.Reading.{header_of, header_found, all_zero, header_right, body_right, fault, first_fault, held, blocks_of, length_fault, four_at, read_reply, code_after};
+ghost use Rattle.image.specs.Reading.{header_of, header_found, all_zero, header_right, body_right, fault, first_fault, blocks_of, length_fault, four_at, read_reply, code_after, content};
 ghost use Rattle.image.specs.Laws.{WrittenAs, DamageFound};
 
 use crate::layout::{BLOCK, COVERED, HEADER, LIMIT, Label, WIDTH};
@@ -138,7 +138,7 @@ fn check_block(block: &[u8; BLOCK], label: Label) -> Result<usize, Refusal>
 // The instruction count of an image, or its first fault in a block.
 fn check_blocks(number: u32, blocks: &[[u8; BLOCK]]) -> Result<usize, Refusal>
     requires { length blocks.now ≤ 794 }
-    ensures reply { result ≡ unless (first_fault layout number (length blocks.now) 0 blocks.now) (Ok (length (flat_map (held layout) blocks.now))) }
+    ensures reply { result ≡ unless (first_fault layout number (length blocks.now) 0 blocks.now) (Ok (length (content layout blocks.now))) }
     ensures few { OnOk result (All (λ block. slice_index block 8 ≤ 62) blocks.now) }
 {
     let mut total = 0;
@@ -165,8 +165,8 @@ fn decode_part(slots: &[[u8; WIDTH]], part: &mut [Instruction])
 
 fn decode_blocks(blocks: &[[u8; BLOCK]], code: &mut [Instruction])
     requires few { All (λ block. slice_index block 8 ≤ 62) blocks.now }
-    requires room { length (flat_map (held layout) blocks.now) ≤ length code.old }
-    ensures { code.new ≡ flat_map (held layout) blocks.now ++ drop (length (flat_map (held layout) blocks.now)) code.old }
+    requires room { length (content layout blocks.now) ≤ length code.old }
+    ensures { code.new ≡ content layout blocks.now ++ drop (length (content layout blocks.now)) code.old }
 {
     let mut at = 0;
     for block in blocks {

@@ -51,7 +51,7 @@ fn write_image(number: u32, code: &[Instruction], store: &mut [u8]) -> Result<us
     ensures store { store.new ≡ store_after layout number code.now store.old result }
 {
     let n = code.len();
-    if n < 1 || n > LIMIT * CAPACITY {
+    if !(1..=LIMIT * CAPACITY).contains(&n) {
         return Err(Reason::CodeLength.at(0));
     }
     let formed = leading_formed(code);

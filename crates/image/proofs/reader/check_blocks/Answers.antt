@@ -4,7 +4,7 @@ use Rattle.std.proofs.lemmas.List.{at_drop_all}
 use Rattle.std.proofs.lemmas.Result.{err_from_is_err_and}
 use Rattle.refusal.specs.Faults.{unless}
 use Rattle.image.specs.Layout.{layout}
-use Rattle.image.specs.Reading.{first_fault, held}
+use Rattle.image.specs.Reading.{first_fault, content}
 use Rattle.image.proofs.Scan.{stops, passes, all_few}
 use Rattle.image.proofs.reader.check_blocks.Goals as goal
 
@@ -13,7 +13,7 @@ returns-in_err-total-clause-reply c =
     let p = err_from_is_err_and c.from_residual.result c.from_residual.ensures.1 in
     let blocks = c.args.blocks.now in
     let stop = stops layout c.args.number (length blocks) blocks c.loop-index.index c.loop-index-test.true c.in_err-total.field-0.0 _ c.in_err-total.ensures in
-    p.1 ∙ ap Err p.2 ∙ sym (ap (λ f. unless f (Ok (length (flat_map (held layout) blocks)))) (sym c.loop-index.invariant.faults ∙ stop))
+    p.1 ∙ ap Err p.2 ∙ sym (ap (λ f. unless f (Ok (length (content layout blocks)))) (sym c.loop-index.invariant.faults ∙ stop))
 
 pub overflow_add-total : goal.overflow_add-total
 overflow_add-total c =

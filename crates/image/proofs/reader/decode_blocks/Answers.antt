@@ -5,7 +5,7 @@ use Rattle.std.proofs.lemmas.List.Folds.{length-flat_map-take}
 use Rattle.std.proofs.lemmas.Slice.{take-put_mid, drop-put_mid}
 use Rattle.machine.specs.declared.instruction.Instruction.{Instruction}
 use Rattle.image.specs.Layout.{decode, layout}
-use Rattle.image.specs.Reading.{held}
+use Rattle.image.specs.Reading.{held, content}
 use Rattle.image.proofs.Pieces.{joined_next}
 use Rattle.image.proofs.Walks.{length_instructions}
 use Rattle.image.proofs.reader.decode_blocks.Goals as goal
@@ -32,9 +32,9 @@ loop-block-preserved c =
     let part : List Instruction = c.decode_part.new.part in
     let is : part ≡ held layout (get_or blocks i []) = c.decode_part.ensures ∙ ap (map decode) c.slots_of-slots.ensures.slots in
     let long : length part ≡ n = ap length c.decode_part.ensures ∙ length-map c.slots_of-slots.result.now decode in
-    let grown : flat_map (held layout) (take (i + 1) blocks) ≡ flat_map (held layout) (take i blocks) ++ held layout (get_or blocks i []) =
+    let grown : content layout (take (i + 1) blocks) ≡ content layout (take i blocks) ++ held layout (get_or blocks i []) =
     joined_next (held layout) blocks i [] c.loop-block-test.true in
-    let whole = ap length grown ∙ length-append (flat_map (held layout) (take i blocks)) (held layout (get_or blocks i [])) in
+    let whole = ap length grown ∙ length-append (content layout (take i blocks)) (held layout (get_or blocks i [])) in
     let size = ap length is in
     let fits = length-flat_map-take (held layout) blocks i [] c.loop-block-test.true in
     let room : at + n ≤ length code = omega (arith, c.loop-block.invariant.counted, c.requires.room) in
@@ -45,7 +45,7 @@ loop-block-preserved c =
       front =
           take-put_mid at (at + n - at) code part (at + n) (omega arith) (omega arith)
           ∙ ap (λ xs. xs ++ part) c.loop-block.invariant.front
-          ∙ ap (λ xs. flat_map (held layout) (take i blocks) ++ xs) is
+          ∙ ap (λ xs. content layout (take i blocks) ++ xs) is
           ∙ sym grown;
       rest = drop-put_mid at (at + n - at) code part (at + n) (omega arith) (omega arith) (omega arith) ∙ kept;
     }
