@@ -120,7 +120,8 @@ fn is_body_right(block: &[u8; BLOCK]) -> bool
 // The instruction count of a right block, or its first fault.
 #[tactic(auto, unfolding(crate::specs::Reading::fault))]
 fn check_block(block: &[u8; BLOCK], label: Label) -> Result<usize, Refusal>
-    ensures { result ≡ unless (fault layout label.number label.index label.blocks block.now) (Ok (slice_index block.now 8)) }
+    ensures { result ≡ unless (fault layout label.number label.index label.blocks block.now)
+        (Ok (slice_index block.now 8)) }
 {
     let index = usize::from(label.index);
     if !is_sealed(block) {
@@ -138,7 +139,8 @@ fn check_block(block: &[u8; BLOCK], label: Label) -> Result<usize, Refusal>
 // The instruction count of an image, or its first fault in a block.
 fn check_blocks(number: u32, blocks: &[[u8; BLOCK]]) -> Result<usize, Refusal>
     requires { length blocks.now ≤ 794 }
-    ensures reply { result ≡ unless (first_fault layout number (length blocks.now) 0 blocks.now) (Ok (length (content layout blocks.now))) }
+    ensures reply { result ≡ unless (first_fault layout number (length blocks.now) 0 blocks.now)
+        (Ok (length (content layout blocks.now))) }
     ensures few { OnOk result (All (λ block. slice_index block 8 ≤ 62) blocks.now) }
 {
     let mut total = 0;
@@ -166,7 +168,7 @@ fn decode_part(slots: &[[u8; WIDTH]], part: &mut [Instruction])
 fn decode_blocks(blocks: &[[u8; BLOCK]], code: &mut [Instruction])
     requires few { All (λ block. slice_index block 8 ≤ 62) blocks.now }
     requires room { length (content layout blocks.now) ≤ length code.old }
-    ensures { code.new ≡ content layout blocks.now ++ drop (length (content layout blocks.now)) code.old }
+    ensures { let held = content layout blocks.now in code.new ≡ held ++ drop (length held) code.old }
 {
     let mut at = 0;
     for block in blocks {

@@ -1,5 +1,4 @@
 use Rattle.std.proofs.Common.{◌≡◌, length, take, drop}
-use Rattle.std.specs.List.{flat_map}
 use Rattle.image.specs.Layout.{layout}
 use Rattle.image.specs.Reading.{content}
 use Rattle.image.proofs.reader.decode_blocks.Given as goal
