@@ -12,7 +12,7 @@ use Rattle.image.specs.Reading.{all_zero, instructions, count_right, header_righ
 use Rattle.image.proofs.Numbers.{two_whole, four_whole, bytes_of_two, bytes_of_four, stand_at}
 use Rattle.image.proofs.Pieces.{length_joined}
 use Rattle.image.proofs.Sound.{Sound, part_fits, length_covered}
-use Rattle.image.proofs.Walks.{length_instructions}
+use Rattle.image.proofs.Chunks.{length_instructions}
 use Rattle.image.proofs.Faults.{Header, header_parts, right_parts, fault_is}
 
 -- zeros

@@ -1,7 +1,9 @@
 -- The chunks of one width that a list begins with.
 use Rattle.std.proofs.Common.{◌≡◌, ℕ, zero, suc, ◌+◌, ◌-◌, ◌*◌, ◌<◌, ◌≤◌, List, [], ◌∷◌, length, get_or, take, drop, sym, refl, ap, ◌∙◌, mul-zero, mul-suc, arith}
 use Rattle.std.specs.Simd.{first_chunks}
-use Rattle.std.proofs.lemmas.List.{drop-drop, drop-take, take-take}
+use Rattle.std.proofs.lemmas.List.{drop-drop, drop-take, length-map, take-take}
+use Rattle.image.specs.Layout.{Layout}
+use Rattle.image.specs.Reading.{instructions}
 
 pub length-first_chunks : {X : Type 0} (w n : ℕ) (xs : List X) → length (first_chunks w n xs) ≡ n
 length-first_chunks w zero xs = refl
@@ -31,3 +33,6 @@ first_chunks-take w (suc n) m xs h =
     ap (λ c. c ∷ first_chunks w n (drop w (take m xs))) front
     ∙ ap (λ ys. take w xs ∷ first_chunks w n ys) back
     ∙ ap (λ cs. take w xs ∷ cs) (first_chunks-take w n (m - w) (drop w xs) (omega arith))
+
+pub length_instructions : {A : Type 0} (l : Layout A) (n : ℕ) (bytes : List ℕ) → length (instructions l n bytes) ≡ n
+length_instructions l n bytes = length-map (first_chunks l.width n bytes) l.decode ∙ length-first_chunks l.width n bytes

@@ -1,6 +1,7 @@
 -- The image of a code reads back as that code; a faultless image is the image of the code that it holds.
 use Rattle.std.proofs.Common.{◌≡◌, ℕ, zero, suc, ◌+◌, ◌-◌, ◌*◌, ◌/◌, ◌%◌, ◌^◌, ◌<◌, ◌≤◌, Bool, true, false, cond, not, ◌&&◌, eqb, leb, ◌⊎◌, List, [], ◌∷◌, ◌++◌, length, get_or, take, drop, IfOk, Some, None, Ok, Err, Option, Result, sym, refl, ap, ◌∙◌, subst, inl, inr, mul_comm, mul-zero, mul-suc, arith, length-append, length-drop, length-take}
 use Rattle.std.specs.List.{AllByRecursion, prefix_len, list_all}
+use Rattle.std.specs.Simd.{first_chunks}
 use Rattle.std.proofs.lemmas.Nat.{div-mul-add, div-add-mod', mod_below, mul-le}
 use Rattle.std.proofs.ByRecursion.{All-take, All-drop}
 use Rattle.std.proofs.lemmas.List.{take_at, drop_at, take_all, take-append-drop, length-take-le, get_or-take, nil_from_length}
@@ -12,10 +13,10 @@ use Rattle.refusal.specs.Faults.{or_else, unless}
 use Rattle.image.specs.Layout.{Layout, layout}
 use Rattle.image.specs.Blocks.{block, blocks_from, blocks_for, image}
 use Rattle.image.specs.Writing.{write_reply, store_after}
-use Rattle.image.specs.Reading.{four_at, instructions, fault, length_fault, image_fault, code_of, read_reply, code_after}
+use Rattle.image.specs.Reading.{four_at, instructions, fault, first_fault, content, length_fault, image_fault, code_of, read_reply, code_after}
 use Rattle.image.specs.Laws.{ReadsAs, WrittenAs, SixtyThree}
 use Rattle.image.proofs.Sound.{Sound, length_block}
-use Rattle.image.proofs.Walks.{fault_in, content_in, length_instructions}
+use Rattle.image.proofs.Chunks.{length_instructions}
 use Rattle.image.proofs.Written.{split_row}
 use Rattle.image.proofs.Faults.{Count, or_else_none, right_parts, header_parts}
 use Rattle.image.proofs.BlockForm.{made_right, right_made}
@@ -95,6 +96,14 @@ rows_counted c n size some full r =
     let same = mul_comm n c in
     let over : size + (c - 1) ≡ n * c + (size + (c - 1) - n * c) = omega (arith, r.needed) in
     ap (λ m. m / c) over ∙ div-mul-add n c (size + (c - 1) - n * c) (omega (arith, r.enough))
+
+-- the first fault and the code of the n blocks that some bytes begin with
+module _ {A : Type 0} (l : Layout A) where
+  abbrev fault_in : ℕ → ℕ → ℕ → ℕ → List ℕ → Option Refusal
+  fault_in number blocks index n bytes = first_fault l number blocks index (first_chunks 512 n bytes)
+
+  abbrev content_in : ℕ → List ℕ → List A
+  content_in n bytes = content l (first_chunks 512 n bytes)
 
 pub same_four : (bytes : List ℕ) → four_at (take 512 bytes) 0 ≡ four_at bytes 0
 same_four bytes =

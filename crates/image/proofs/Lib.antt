@@ -3,7 +3,6 @@ pub mod Pieces
 pub mod Sound
 pub mod Encoding
 pub mod Chunks
-pub mod Walks
 pub mod Written
 pub mod Faults
 pub mod BlockForm

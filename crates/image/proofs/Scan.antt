@@ -6,7 +6,7 @@ use Rattle.refusal.specs.Faults.{unless, or_else}
 use Rattle.image.specs.Layout.{Layout}
 use Rattle.image.specs.Reading.{fault, first_fault, held, content}
 use Rattle.image.proofs.Pieces.{joined_next}
-use Rattle.image.proofs.Walks.{length_instructions}
+use Rattle.image.proofs.Chunks.{length_instructions}
 use Rattle.image.proofs.Faults.{refused_by, passed_by, or_else_none, right_parts, header_parts}
 
 few : {A : Type 0} (l : Layout A) (number index blocks : ℕ) (block : List ℕ) → fault l number index blocks block ≡ None
@@ -20,7 +20,7 @@ module _ {A : Type 0} (l : Layout A) (number n : ℕ) where
     abbrev here : List ℕ
     here = get_or blocks i []
 
-    next : first_fault l number n i (drop i blocks) ≡ or_else (fault l number i n here) (first_fault l number n (i + 1) (drop (i + 1) blocks))
+    pub next : first_fault l number n i (drop i blocks) ≡ or_else (fault l number i n here) (first_fault l number n (i + 1) (drop (i + 1) blocks))
     next = at_drop_more (first_fault l number n i) blocks i [] inside
 
     pub stops : (e : Refusal) (m : ℕ) → Err e ≡ unless (fault l number i n here) (Ok m) → first_fault l number n i (drop i blocks) ≡ Some e

@@ -1,13 +1,19 @@
 -- A store whose first n blocks are those of a code.
-use Rattle.std.proofs.Common.{◌≡◌, ℕ, ◌+◌, ◌-◌, ◌*◌, ◌<◌, ◌≤◌, ◌⊎◌, List, [], ◌++◌, length, take, drop, min, sym, ap, ◌∙◌, inl, inr, append-nil, arith, length-append, length-take}
+use Rattle.std.proofs.Common.{◌≡◌, ℕ, suc, ◌+◌, ◌-◌, ◌*◌, ◌<◌, ◌≤◌, ◌⊎◌, List, [], ◌++◌, length, take, drop, min, sym, ap, ◌∙◌, inl, inr, append-nil, mul-suc, add-one, arith, length-append, length-take}
 use borrow.Rule.Slice.PartMut.{put_mid}
-use Rattle.std.proofs.lemmas.List.{append_assoc, take_at, drop_at, take_all, drop_all, take-append-drop, nil_from_length}
+use Rattle.std.proofs.lemmas.List.{append_assoc, drop-drop, take_at, drop_at, take_all, drop_all, take-append-drop, nil_from_length}
 use Rattle.std.proofs.lemmas.Bool.{cases_lt}
 use Rattle.std.proofs.lemmas.Slice.{take-put_mid, drop-put_mid}
 use Rattle.image.specs.Layout.{Layout}
 use Rattle.image.specs.Blocks.{block, blocks_from}
 use Rattle.image.proofs.Sound.{Sound, length_block}
-use Rattle.image.proofs.Walks.{drop_row, one_less}
+
+pub drop_row : {X : Type 0} (xs : List X) (w k : ℕ) → drop w (drop (w * k) xs) ≡ drop (w * (k + 1)) xs
+drop_row xs w k =
+    drop-drop w (w * k) xs ∙ ap (λ n. drop n xs) (sym (ap (λ n. w * n) (add-one k) ∙ mul-suc w k))
+
+one_less : (n k : ℕ) → k < n → n - k ≡ suc (n - (k + 1))
+one_less n k h = omega arith
 
 -- a row and what follows it
 pub split_row : {X : Type 0} (part rest : List X) (c : ℕ) → length part ≤ c → (length part ≡ c) ⊎ (rest ≡ [])

@@ -6,7 +6,7 @@ use Rattle.machine.specs.declared.instruction.Instruction.{Instruction}
 use Rattle.image.specs.Layout.{decode, layout}
 use Rattle.image.specs.Reading.{held, content}
 use Rattle.image.proofs.Pieces.{joined_next}
-use Rattle.image.proofs.Walks.{length_instructions}
+use Rattle.image.proofs.Chunks.{length_instructions}
 use Rattle.image.proofs.reader.decode_blocks.Goals as goal
 
 drop_further : {X : Type 0} (n at : ℕ) (xs ys : List X) → drop at xs ≡ drop at ys → drop (at + n) xs ≡ drop (at + n) ys

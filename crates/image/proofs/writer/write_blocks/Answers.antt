@@ -5,8 +5,7 @@ use Rattle.std.specs.Slice.Iter.{chunks_rest}
 use Rattle.image.specs.Layout.{layout}
 use Rattle.image.specs.Blocks.{block, blocks_from, image}
 use Rattle.image.proofs.Encoding.{sound}
-use Rattle.image.proofs.Walks.{drop_row}
-use Rattle.image.proofs.Written.{Written, first_row, write_next, write_done}
+use Rattle.image.proofs.Written.{Written, drop_row, first_row, write_next, write_done}
 use Rattle.image.proofs.writer.write_blocks.Goals as goal
 
 pub loop-index-preserved : goal.loop-index-preserved
