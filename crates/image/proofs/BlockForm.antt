@@ -1,6 +1,6 @@
 -- A block that was made for a part is right and holds that part; a right block is the one that is made for its part.
 use Rattle.std.proofs.Common.{◌≡◌, ℕ, zero, suc, ◌+◌, ◌-◌, ◌*◌, ◌/◌, ◌%◌, ◌^◌, ◌<◌, ◌≤◌, true, eqb, ltb, leb, List, [], ◌∷◌, ◌++◌, length, get_or, take, drop, None, sym, refl, ap, ◌∙◌, inl, inr, mul-zero, mul-suc, arith, length-drop, take-add}
-use Rattle.std.specs.List.{flat_map, AllByRecursion}
+use Rattle.std.specs.List.{flat_map, AllByRecursion, list_all}
 use Rattle.std.proofs.lemmas.List.{append_assoc, take_at, drop_at, take_all, take-take, take-append-drop, length-take-le, drop-take, drop-drop}
 use Rattle.std.proofs.lemmas.Bool.{and_parts, and_from, eq-eqb, le-leb, lt-ltb, le-ltb, eqb-true, cases_lt, cond-true, cond-false}
 use Rattle.std.proofs.ByRecursion.{All-get_or, All-take, All-drop}
@@ -8,11 +8,11 @@ use Rattle.crc.specs.Crc.{crc, sealed, Bytes}
 use Rattle.crc.proofs.Burst.{crc_fits, sealed_with}
 use Rattle.image.specs.Layout.{Layout}
 use Rattle.image.specs.Blocks.{two, zeros, header, covered, block}
-use Rattle.image.specs.Reading.{all, all_zero, instructions, count_right, header_right, body_right, fault}
+use Rattle.image.specs.Reading.{all_zero, instructions, count_right, header_right, body_right, fault}
 use Rattle.image.proofs.Numbers.{two_whole, four_whole, bytes_of_two, bytes_of_four, stand_at}
 use Rattle.image.proofs.Pieces.{length_joined}
 use Rattle.image.proofs.Sound.{Sound, part_fits, length_covered}
-use Rattle.image.proofs.Walks.{length_instructions}
+use Rattle.image.proofs.Chunks.{length_instructions}
 use Rattle.image.proofs.Faults.{Header, header_parts, right_parts, fault_is}
 
 -- zeros
@@ -102,7 +102,7 @@ module _ {A : Type 0} (l : Layout A) (s : Sound l) where
           (and_from _ _ (eq-eqb _ _ (two_whole blocks b-fits))
           (and_from _ _ (count_made index blocks (length part) some few full) refl)))
 
-      made_body : AllByRecursion (λ a. l.decode (l.encode a) ≡ a) part → all l.formed part ≡ true
+      made_body : AllByRecursion (λ a. l.decode (l.encode a) ≡ a) part → list_all l.formed part ≡ true
           → (body_right l bytes ≡ true) × (instructions l (get_or bytes 8 0) (drop 12 bytes) ≡ part)
       unfolding block covered
       made_body each formed =
@@ -117,11 +117,11 @@ module _ {A : Type 0} (l : Layout A) (s : Sound l) where
           sym (drop-drop (l.width * n) 12 (take 510 bytes))
           ∙ ap (drop (l.width * n)) front
           ∙ drop_at body rest (l.width * n) (length_joined l.encode l.width s.wide part) in
-          (and_from _ _ (ap (all l.formed) held ∙ formed) (ap all_zero tail ∙ zeros_are (498 - l.width * n)), held)
+          (and_from _ _ (ap (list_all l.formed) held ∙ formed) (ap all_zero tail ∙ zeros_are (498 - l.width * n)), held)
 
       pub made_right : number < 2 ^ 32 → index < 2 ^ 16 → blocks < 2 ^ 16 → 1 ≤ length part
           → (index + 1 < blocks → length part ≡ l.capacity)
-          → AllByRecursion (λ a. l.decode (l.encode a) ≡ a) part → all l.formed part ≡ true
+          → AllByRecursion (λ a. l.decode (l.encode a) ≡ a) part → list_all l.formed part ≡ true
           → (fault l number index blocks bytes ≡ None) × (instructions l (get_or bytes 8 0) (drop 12 bytes) ≡ part)
       made_right n-fits i-fits b-fits some full each formed =
           let body = made_body each formed in (
@@ -159,7 +159,7 @@ module _ {A : Type 0} (l : Layout A) (s : Sound l) where
           let text = take 510 bytes in
           let same : length part ≡ count = length_instructions l count (drop 12 bytes) in
           let fits : n ≤ 498 = part_fits l s count head.count_is.few in
-          let tests = and_parts (all l.formed part) _ (right_parts l number index blocks bytes right).2 in
+          let tests = and_parts (list_all l.formed part) _ (right_parts l number index blocks bytes right).2 in
           let first : take 12 text ≡ header number index blocks (length part) = take-take 12 510 bytes (omega arith) ∙ header_is in
           let inner : drop 12 text ≡ take 498 (drop 12 bytes) = drop-take 12 498 bytes in
           let size : length (drop 12 bytes) ≡ 500 = length-drop 12 bytes ∙ ap (λ k. k - 12) long in

@@ -1,8 +1,7 @@
-use Rattle.std.proofs.Common.{◌≡◌, ℕ, ◌+◌, ◌-◌, ◌*◌, ◌/◌, ◌%◌, ◌^◌, ◌<◌, ◌≤◌, List, [], ◌∷◌, ◌++◌, length, get_or, take, drop, set, sym, refl, ap, ◌∙◌, arith, w32, SFits, to_z, of_z}
-use lib.ListN.{length-replicate}
-use borrow.Rule.Slice.PartMut.{put_mid, post_of}
+use Rattle.std.proofs.Common.{◌≡◌, ℕ, ◌+◌, ◌-◌, ◌*◌, ◌/◌, ◌%◌, ◌^◌, ◌<◌, ◌≤◌, List, [], ◌∷◌, ◌++◌, length, get_or, take, drop, sym, refl, ap, ◌∙◌, append-nil, arith, w32, SFits, to_z, of_z}
+use borrow.Rule.Slice.PartMut.{put_mid}
 use Rattle.std.specs.List.{flat_map}
-use Rattle.std.proofs.lemmas.List.{append_assoc, drop_at, drop-drop, take_at, take_all, set-append_right, drop-replicate, replicate-append-replicate}
+use Rattle.std.proofs.lemmas.List.{append_assoc, drop_at, drop-drop, take_at, take_all, drop-replicate, replicate-append-replicate}
 use mir.Facts.{Fits-of_z}
 use Rattle.std.proofs.ByRecursion.{All-get_or}
 use Rattle.std.proofs.lemmas.Int.{to_z-of_z, of_z-to_z}
@@ -45,9 +44,8 @@ pub sound : Sound layout
 sound = record { wide = λ _. refl; back = encode_decode; room = omega arith; some = omega arith; byte = omega arith; few = omega arith }
 
 -- a header and a body written over a list
-pub written_over : (head body zs : List ℕ) (k : ℕ) → length head ≡ 12 → length zs ≡ 512
-    → put_mid 12 k (head ++ post_of 0 12 zs) body ≡ head ++ (body ++ drop (12 + k) zs)
-written_over head body zs k long all =
+written_over : (head body zs : List ℕ) (k : ℕ) → length head ≡ 12 → put_mid 12 k (head ++ drop 12 zs) body ≡ head ++ (body ++ drop (12 + k) zs)
+written_over head body zs k long =
     let front : take 12 (head ++ drop 12 zs) ≡ head = take_at head (drop 12 zs) 12 long in
     let back : drop k (drop 12 (head ++ drop 12 zs)) ≡ drop (12 + k) zs =
     ap (drop k) (drop_at head (drop 12 zs) 12 long) ∙ drop-drop k 12 zs in
@@ -55,55 +53,47 @@ written_over head body zs k long all =
     ∙ ap (λ xs. head ++ (body ++ xs)) back
 
 -- the last two bytes of a block that was zero there
-pub check_written : (xs : List ℕ) (x y : ℕ) → length xs ≡ 510
-    → set (set (xs ++ 0 ∷ 0 ∷ []) 510 x) 511 y ≡ xs ++ x ∷ y ∷ []
-check_written xs x y long =
-    ap (λ zs. set zs 511 y) (set-append_right xs (0 ∷ 0 ∷ []) 510 510 x long (omega arith))
-    ∙ set-append_right xs (x ∷ 0 ∷ []) 510 511 y long (omega arith)
+check_written : (xs check : List ℕ) → length xs ≡ 510 → put_mid 510 2 (xs ++ 0 ∷ 0 ∷ []) check ≡ xs ++ check
+check_written xs check long =
+    ap (λ ys. ys ++ (check ++ drop 2 (drop 510 (xs ++ 0 ∷ 0 ∷ [])))) (take_at xs (0 ∷ 0 ∷ []) 510 long)
+    ∙ ap (λ ys. xs ++ (check ++ drop 2 ys)) (drop_at xs (0 ∷ 0 ∷ []) 510 long)
+    ∙ ap (λ ys. xs ++ ys) (append-nil check)
 
-zeros_left : (n k : ℕ) → n ≡ 512 → 12 + k ≤ 510 → drop (12 + k) (zeros n) ≡ zeros (498 - k) ++ 0 ∷ 0 ∷ []
-zeros_left n k e h =
-    drop-replicate (12 + k) n 0
-    ∙ ap zeros (omega arith)
-    ∙ sym (replicate-append-replicate (498 - k) 2 0)
+zeros_left : (k : ℕ) → 12 + k ≤ 510 → drop (12 + k) (zeros 512) ≡ zeros (498 - k) ++ 0 ∷ 0 ∷ []
+zeros_left k h = drop-replicate (12 + k) 512 0 ∙ ap zeros (omega arith) ∙ sym (replicate-append-replicate (498 - k) 2 0)
 
 module _ (number index blocks : ℕ) (part : List Instruction) (short : length part ≤ 62) where
-  covered_long : length (covered layout number index blocks part) ≡ 510
-  covered_long = length_covered layout sound number index blocks part short
-
   -- the header, then the instructions, written over zeros
-  pub covered_written : (n k : ℕ) → n ≡ 512 → k ≡ 8 * length part
-      → put_mid 12 k (header number index blocks (length part) ++ post_of 0 12 (zeros n)) (flat_map encode part)
+  covered_written : (k : ℕ) → k ≡ 8 * length part
+      → put_mid 12 k (header number index blocks (length part) ++ drop 12 (zeros 512)) (flat_map encode part)
       ≡ covered layout number index blocks part ++ 0 ∷ 0 ∷ []
   unfolding covered
-  covered_written n k all e =
+  covered_written k e =
       let head = header number index blocks (length part) in
       let body = flat_map encode part in
       let rest = zeros (498 - 8 * length part) in
-      let left : drop (12 + k) (zeros n) ≡ rest ++ 0 ∷ 0 ∷ [] =
-      zeros_left n k all (omega arith) ∙ ap (λ m. zeros (498 - m) ++ 0 ∷ 0 ∷ []) e in
-      written_over head body (zeros n) k refl (length-replicate n 0 ∙ all)
+      let left : drop (12 + k) (zeros 512) ≡ rest ++ 0 ∷ 0 ∷ [] =
+      zeros_left k (omega arith) ∙ ap (λ m. zeros (498 - m) ++ 0 ∷ 0 ∷ []) e in
+      written_over head body (zeros 512) k refl
       ∙ ap (λ xs. head ++ (body ++ xs)) left
       ∙ sym (append_assoc head (body ++ rest) (0 ∷ 0 ∷ [])
       ∙ ap (λ xs. head ++ xs) (append_assoc body rest (0 ∷ 0 ∷ [])))
 
   -- with the check over what was written
-  pub block_written : (n k : ℕ) (filled head body check : List ℕ) → n ≡ 512 → k ≡ 8 * length part
-      → filled ≡ zeros n → head ≡ header number index blocks (length part) → body ≡ flat_map encode part
-      → check ≡ two (crc (take 510 (put_mid 12 k (head ++ post_of 0 12 filled) body)))
-      → set (set (put_mid 12 k (head ++ post_of 0 12 filled) body) 510 (get_or check 0 0)) 511 (get_or check 1 0)
-      ≡ block layout number index blocks part
+  pub block_written : (k : ℕ) (head body check : List ℕ) → k ≡ 8 * length part
+      → head ≡ header number index blocks (length part) → body ≡ flat_map encode part
+      → check ≡ two (crc (take 510 (put_mid 12 k (head ++ drop 12 (zeros 512)) body)))
+      → put_mid 510 2 (put_mid 12 k (head ++ drop 12 (zeros 512)) body) check ≡ block layout number index blocks part
   unfolding block
-  block_written n k filled head body check all e f h b q =
+  block_written k head body check e h b q =
       let text = covered layout number index blocks part in
-      let whole = put_mid 12 k (head ++ post_of 0 12 filled) body in
-      let parts : whole ≡ put_mid 12 k (header number index blocks (length part) ++ post_of 0 12 (zeros n)) (flat_map encode part) =
-      ap (λ xs. put_mid 12 k (head ++ post_of 0 12 xs) body) f
-      ∙ ap (λ xs. put_mid 12 k (xs ++ post_of 0 12 (zeros n)) body) h
-      ∙ ap (put_mid 12 k (header number index blocks (length part) ++ post_of 0 12 (zeros n))) b in
-      let made : whole ≡ text ++ 0 ∷ 0 ∷ [] = parts ∙ covered_written n k all e in
-      let front : take 510 whole ≡ text = ap (take 510) made ∙ take_at text (0 ∷ 0 ∷ []) 510 covered_long in
-      let sum : check ≡ two (crc text) = q ∙ ap (λ xs. two (crc xs)) front in
-      ap (λ xs. set (set xs 510 (get_or check 0 0)) 511 (get_or check 1 0)) made
-      ∙ check_written text (get_or check 0 0) (get_or check 1 0) covered_long
-      ∙ ap (λ xs. text ++ get_or xs 0 0 ∷ get_or xs 1 0 ∷ []) sum
+      let long = length_covered layout sound number index blocks part short in
+      let whole = put_mid 12 k (head ++ drop 12 (zeros 512)) body in
+      let made : whole ≡ text ++ 0 ∷ 0 ∷ [] =
+      ap (λ xs. put_mid 12 k (xs ++ drop 12 (zeros 512)) body) h
+      ∙ ap (put_mid 12 k (header number index blocks (length part) ++ drop 12 (zeros 512))) b
+      ∙ covered_written k e in
+      let front : take 510 whole ≡ text = ap (take 510) made ∙ take_at text (0 ∷ 0 ∷ []) 510 long in
+      ap (λ xs. put_mid 510 2 xs check) made
+      ∙ check_written text check long
+      ∙ ap (λ xs. text ++ xs) (q ∙ ap (λ xs. two (crc xs)) front)

@@ -3,9 +3,9 @@ use Rattle.std.proofs.lemmas.Bool.{and_parts, cases_lt, cond-true, cond-false, l
 use Rattle.refusal.specs.declared.Refusal.{Refusal}
 use Rattle.refusal.specs.declared.Reason.TheVariants.{BlockCheck, BlockHeader, InstructionForm}
 use Rattle.crc.specs.Crc.{sealed}
+use Rattle.refusal.specs.Faults.{refusal, unless, or_else}
 use Rattle.image.specs.Layout.{Layout}
-use Rattle.image.specs.Writing.{refusal}
-use Rattle.image.specs.Reading.{two_at, four_at, count_right, header_right, body_right, fault, unless, or_else}
+use Rattle.image.specs.Reading.{two_at, four_at, count_right, header_right, body_right, fault}
 
 -- the fault that three tests show
 abbrev pub verdict : ℕ → Bool → Bool → Bool → Option Refusal
@@ -16,30 +16,21 @@ verdict index a b c =
 
 no_fault : (index : ℕ) (a b c : Bool) → verdict index a b c ≡ None → (a ≡ true) × (b ≡ true) × (c ≡ true)
 no_fault index true true true e = (refl, refl, refl)
-no_fault index true true false e = let z : ◌≡◌ {A = ℕ} 0 1 = cc in absurd (omega arith)
-no_fault index true false c e = let z : ◌≡◌ {A = ℕ} 0 1 = cc in absurd (omega arith)
-no_fault index false b c e = let z : ◌≡◌ {A = ℕ} 0 1 = cc in absurd (omega arith)
-
--- an answer that is there exactly where a test holds
-pub there : (b : Bool) (m n : ℕ) → Some m ≡ cond b (Some n) None → (b ≡ true) × (m ≡ n)
-there true m n e = (refl, cc)
-there false m n e = let z : ◌≡◌ {A = ℕ} 0 1 = cc in absurd (omega arith)
-
-pub missing : (b : Bool) (n : ℕ) → None ≡ cond b (Some n) None → b ≡ false
-missing true n e = let z : ◌≡◌ {A = ℕ} 0 1 = cc in absurd (omega arith)
-missing false n e = refl
+no_fault index true true false e = absurd (cc)
+no_fault index true false c e = absurd (cc)
+no_fault index false b c e = absurd (cc)
 
 pub refused_by : {X : Type 0} (f : Option Refusal) (e : Refusal) (x : X) → Err e ≡ unless f (Ok x) → f ≡ Some e
-refused_by None e x h = let z : ◌≡◌ {A = ℕ} 0 1 = cc in absurd (omega arith)
+refused_by None e x h = absurd (cc)
 refused_by (Some f) e x h = cc
 
 pub passed_by : {X : Type 0} (f : Option Refusal) (x y : X) → Ok x ≡ unless f (Ok y) → (f ≡ None) × (x ≡ y)
 passed_by None x y h = (refl, cc)
-passed_by (Some f) x y h = let z : ◌≡◌ {A = ℕ} 0 1 = cc in absurd (omega arith)
+passed_by (Some f) x y h = absurd (cc)
 
 pub or_else_none : (f g : Option Refusal) → or_else f g ≡ None → (f ≡ None) × (g ≡ None)
 or_else_none None g h = (refl, h)
-or_else_none (Some f) g h = let z : ◌≡◌ {A = ℕ} 0 1 = cc in absurd (omega arith)
+or_else_none (Some f) g h = absurd (cc)
 
 pub record Count {A : Type 0} (l : Layout A) (index blocks count : ℕ) : Type 0 where
   pub some : 1 ≤ count

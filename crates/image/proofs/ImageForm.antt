@@ -1,52 +1,47 @@
 -- The image of a code reads back as that code; a faultless image is the image of the code that it holds.
-use Rattle.std.proofs.Common.{◌≡◌, ℕ, zero, suc, ◌+◌, ◌-◌, ◌*◌, ◌/◌, ◌%◌, ◌^◌, ◌<◌, ◌≤◌, Bool, true, false, cond, ◌&&◌, eqb, leb, ◌⊎◌, List, [], ◌∷◌, ◌++◌, length, get_or, take, drop, IfOk, Some, None, Ok, Err, Option, Result, sym, refl, ap, ◌∙◌, subst, inl, inr, mul_comm, mul-zero, mul-suc, arith, length-append, length-drop, length-take}
-use Rattle.std.specs.List.{AllByRecursion}
+use Rattle.std.proofs.Common.{◌≡◌, ℕ, zero, suc, ◌+◌, ◌-◌, ◌*◌, ◌/◌, ◌%◌, ◌^◌, ◌<◌, ◌≤◌, Bool, true, false, cond, not, ◌&&◌, eqb, leb, ◌⊎◌, List, [], ◌∷◌, ◌++◌, length, get_or, take, drop, IfOk, Some, None, Ok, Err, Option, Result, sym, refl, ap, ◌∙◌, subst, inl, inr, mul_comm, mul-zero, mul-suc, arith, length-append, length-drop, length-take}
+use Rattle.std.specs.List.{AllByRecursion, prefix_len, list_all}
+use Rattle.std.specs.Simd.{first_chunks}
 use Rattle.std.proofs.lemmas.Nat.{div-mul-add, div-add-mod', mod_below, mul-le}
 use Rattle.std.proofs.ByRecursion.{All-take, All-drop}
-use Rattle.std.proofs.lemmas.List.{append-nil, take_at, drop_at, take_all, drop_all, take-append-drop, length-take-le, get_or-take, nil_from_length}
+use Rattle.std.proofs.lemmas.List.{take_at, drop_at, take_all, take-append-drop, length-take-le, get_or-take, nil_from_length}
+use Rattle.std.proofs.lemmas.List.Folds.{list_all-append}
 use Rattle.std.proofs.lemmas.Bool.{and_parts, and_from, eq-eqb, le-leb, leb-true, eqb-true, cases_lt, cases_Bool, cond-true, cond-false}
 use Rattle.refusal.specs.declared.Refusal.{Refusal}
 use Rattle.crc.specs.Crc.{Bytes}
+use Rattle.refusal.specs.Faults.{or_else, unless}
 use Rattle.image.specs.Layout.{Layout, layout}
 use Rattle.image.specs.Blocks.{block, blocks_from, blocks_for, image}
-use Rattle.image.specs.Writing.{leading, write_reply, store_after}
-use Rattle.image.specs.Reading.{four_at, all, instructions, or_else, fault, first_fault, content, length_fault, image_fault, code_of, unless, read_reply, code_after}
+use Rattle.image.specs.Writing.{write_reply, store_after}
+use Rattle.image.specs.Reading.{four_at, instructions, fault, first_fault, content, length_fault, image_fault, code_of, read_reply, code_after}
 use Rattle.image.specs.Laws.{ReadsAs, WrittenAs, SixtyThree}
 use Rattle.image.proofs.Sound.{Sound, length_block}
-use Rattle.image.proofs.Walks.{length_instructions}
+use Rattle.image.proofs.Chunks.{length_instructions}
+use Rattle.image.proofs.Written.{split_row}
 use Rattle.image.proofs.Faults.{Count, or_else_none, right_parts, header_parts}
 use Rattle.image.proofs.BlockForm.{made_right, right_made}
 
-all_split : {X : Type 0} (test : X → Bool) (n : ℕ) (xs : List X) → all test xs ≡ true
-    → (all test (take n xs) ≡ true) × (all test (drop n xs) ≡ true)
-all_split test zero xs e = (refl, e)
-all_split test (suc n) [] e = (refl, refl)
-all_split test (suc n) (x ∷ xs) e =
-    let both = and_parts (test x) (all test xs) e in
-    let rest = all_split test n xs both.1 in
-    (and_from (test x) _ both.0 rest.0, rest.1)
+all_split : {X : Type 0} (test : X → Bool) (n : ℕ) (xs : List X) → list_all test xs ≡ true
+    → (list_all test (take n xs) ≡ true) × (list_all test (drop n xs) ≡ true)
+all_split test n xs e =
+    and_parts (list_all test (take n xs)) _
+    (sym (list_all-append test (take n xs) (drop n xs)) ∙ ap (list_all test) (take-append-drop n xs) ∙ e)
 
-all_join : {X : Type 0} (test : X → Bool) (xs ys : List X) → all test xs ≡ true → all test ys ≡ true → all test (xs ++ ys) ≡ true
-all_join test [] ys p q = q
-all_join test (x ∷ xs) ys p q =
-    let both = and_parts (test x) (all test xs) p in
-    and_from (test x) _ both.0 (all_join test xs ys both.1 q)
-
-all_leading : {X : Type 0} (test : X → Bool) (xs : List X) → all test xs ≡ true → leading test xs ≡ length xs
+all_leading : {X : Type 0} (test : X → Bool) (xs : List X) → list_all test xs ≡ true → prefix_len test xs ≡ length xs
 all_leading test [] e = refl
 all_leading test (x ∷ xs) e =
-    let both = and_parts (test x) (all test xs) e in
-    cond-true (test x) _ _ both.0 ∙ ap suc (all_leading test xs both.1)
+    let both = and_parts (test x) (list_all test xs) e in
+    cond-true (test x) _ _ both.0 ∙ ap (λ n. 1 + n) (all_leading test xs both.1) ∙ omega arith
 
-leading_all : {X : Type 0} (test : X → Bool) (xs : List X) → leading test xs ≡ length xs → all test xs ≡ true
+leading_all : {X : Type 0} (test : X → Bool) (xs : List X) → prefix_len test xs ≡ length xs → list_all test xs ≡ true
 leading_all test [] e = refl
 leading_all test (x ∷ xs) e = elim (cases_Bool (test x)) [
   | inl passes ↦
-      let one = cond-true (test x) (suc (leading test xs)) 0 passes in
-      let rest : leading test xs ≡ length xs = omega arith in
+      let one = cond-true (test x) (1 + prefix_len test xs) 0 passes in
+      let rest : prefix_len test xs ≡ length xs = omega arith in
       and_from (test x) _ passes (leading_all test xs rest)
   | inr fails ↦
-      let none = cond-false (test x) (suc (leading test xs)) 0 fails in
+      let none = cond-false (test x) (1 + prefix_len test xs) 0 fails in
       absurd (omega arith)
 ]
 
@@ -102,13 +97,13 @@ rows_counted c n size some full r =
     let over : size + (c - 1) ≡ n * c + (size + (c - 1) - n * c) = omega (arith, r.needed) in
     ap (λ m. m / c) over ∙ div-mul-add n c (size + (c - 1) - n * c) (omega (arith, r.enough))
 
--- a row and what follows it
-split_row : {X : Type 0} (part rest : List X) (c : ℕ) → length part ≤ c → (length part ≡ c) ⊎ (rest ≡ [])
-    → (take c (part ++ rest) ≡ part) × (drop c (part ++ rest) ≡ rest)
-split_row part rest c few (inl full) = (take_at part rest c full, drop_at part rest c full)
-split_row part rest c few (inr none) =
-    let alone : part ++ rest ≡ part = ap (λ xs. part ++ xs) none ∙ append-nil part in
-    (ap (take c) alone ∙ take_all c part few, ap (drop c) alone ∙ drop_all c part few ∙ sym none)
+-- the first fault and the code of the n blocks that some bytes begin with
+module _ {A : Type 0} (l : Layout A) where
+  abbrev fault_in : ℕ → ℕ → ℕ → ℕ → List ℕ → Option Refusal
+  fault_in number blocks index n bytes = first_fault l number blocks index (first_chunks 512 n bytes)
+
+  abbrev content_in : ℕ → List ℕ → List A
+  content_in n bytes = content l (first_chunks 512 n bytes)
 
 pub same_four : (bytes : List ℕ) → four_at (take 512 bytes) 0 ≡ four_at bytes 0
 same_four bytes =
@@ -121,9 +116,9 @@ same_four bytes =
 module _ {A : Type 0} (l : Layout A) (s : Sound l) (number blocks : ℕ) where
   -- the blocks that are made for a code
   made : (n index : ℕ) (code : List A) → number < 2 ^ 32 → blocks < 2 ^ 16 → index + n ≡ blocks → Rows l.capacity n (length code)
-      → AllByRecursion (λ a. l.decode (l.encode a) ≡ a) code → all l.formed code ≡ true
-      → (first_fault l number blocks index n (blocks_from l number blocks index n code) ≡ None)
-      × (content l n (blocks_from l number blocks index n code) ≡ code)
+      → AllByRecursion (λ a. l.decode (l.encode a) ≡ a) code → list_all l.formed code ≡ true
+      → (fault_in l number blocks index n (blocks_from l number blocks index n code) ≡ None)
+      × (content_in l n (blocks_from l number blocks index n code) ≡ code)
       × (length (blocks_from l number blocks index n code) ≡ 512 * n)
   made zero index code n-fits b-fits e r each formed =
       let none = mul-zero l.capacity in
@@ -151,27 +146,27 @@ module _ {A : Type 0} (l : Layout A) (s : Sound l) (number blocks : ℕ) where
       let long : length here ≡ 512 = length_block l s number index blocks part few in
       let front : take 512 (here ++ later) ≡ here = take_at here later 512 long in
       let back : drop 512 (here ++ later) ≡ later = drop_at here later 512 long in (
-        ap (λ xs. or_else (fault l number index blocks xs) (first_fault l number blocks (index + 1) n (drop 512 (here ++ later)))) front
-            ∙ ap (λ f. or_else f (first_fault l number blocks (index + 1) n (drop 512 (here ++ later)))) right.0
-            ∙ ap (first_fault l number blocks (index + 1) n) back ∙ ih.0,
-        ap (λ xs. instructions l (get_or xs 8 0) (drop 12 xs) ++ content l n (drop 512 (here ++ later))) front
-            ∙ ap (λ xs. xs ++ content l n (drop 512 (here ++ later))) right.1
-            ∙ ap (λ xs. part ++ content l n xs) back ∙ ap (λ xs. part ++ xs) ih.1 ∙ take-append-drop c code,
+        ap (λ xs. or_else (fault l number index blocks xs) (fault_in l number blocks (index + 1) n (drop 512 (here ++ later)))) front
+            ∙ ap (λ f. or_else f (fault_in l number blocks (index + 1) n (drop 512 (here ++ later)))) right.0
+            ∙ ap (fault_in l number blocks (index + 1) n) back ∙ ih.0,
+        ap (λ xs. instructions l (get_or xs 8 0) (drop 12 xs) ++ content_in l n (drop 512 (here ++ later))) front
+            ∙ ap (λ xs. xs ++ content_in l n (drop 512 (here ++ later))) right.1
+            ∙ ap (λ xs. part ++ content_in l n xs) back ∙ ap (λ xs. part ++ xs) ih.1 ∙ take-append-drop c code,
         length-append here later ∙ (let tail = ih.2 in let times = mul-suc 512 n in omega arith),
       )
 
   -- a block that is not the last is full
   last_or_full : (n index count size : ℕ) (bytes : List ℕ) → index + suc n ≡ blocks → Count l index blocks count → size ≡ count
-      → (size ≡ l.capacity) ⊎ (content l n bytes ≡ [])
+      → (size ≡ l.capacity) ⊎ (content_in l n bytes ≡ [])
   last_or_full zero index count size bytes e k same = inr refl
   last_or_full (suc n) index count size bytes e k same = inl (same ∙ k.full (omega arith))
 
   -- blocks without fault
   right : (n index : ℕ) (bytes : List ℕ) → index + n ≡ blocks → length bytes ≡ 512 * n → Bytes bytes
-      → first_fault l number blocks index n bytes ≡ None
-      → (bytes ≡ blocks_from l number blocks index n (content l n bytes))
-      × (all l.formed (content l n bytes) ≡ true)
-      × Rows l.capacity n (length (content l n bytes))
+      → fault_in l number blocks index n bytes ≡ None
+      → (bytes ≡ blocks_from l number blocks index n (content_in l n bytes))
+      × (list_all l.formed (content_in l n bytes) ≡ true)
+      × Rows l.capacity n (length (content_in l n bytes))
   right zero index bytes e long each clean =
       let none = mul-zero l.capacity in
       (nil_from_length bytes long, refl, record { enough = omega arith; needed = omega (arith, s.some) })
@@ -181,11 +176,11 @@ module _ {A : Type 0} (l : Layout A) (s : Sound l) (number blocks : ℕ) where
       let later = drop 512 bytes in
       let times = mul-suc 512 n in
       let left = length-drop 512 bytes in
-      let parts = or_else_none (fault l number index blocks here) (first_fault l number blocks (index + 1) n later) clean in
+      let parts = or_else_none (fault l number index blocks here) (fault_in l number blocks (index + 1) n later) clean in
       let tests = right_parts l number index blocks here parts.0 in
       let count = (header_parts l number index blocks here tests.1).count_is in
       let part = instructions l (get_or here 8 0) (drop 12 here) in
-      let rest = content l n later in
+      let rest = content_in l n later in
       let size : length part ≡ get_or here 8 0 = length_instructions l (get_or here 8 0) (drop 12 here) in
       let ih = right n (index + 1) later (omega arith) (omega arith) (All-drop (λ b. b < 256) 512 bytes each) parts.1 in
       let one : here ≡ block l number index blocks part =
@@ -201,20 +196,36 @@ module _ {A : Type 0} (l : Layout A) (s : Sound l) (number blocks : ℕ) where
             ∙ ap (λ xs. block l number index blocks part ++ xs) ih.0
             ∙ ap (λ xs. block l number index blocks xs ++ blocks_from l number blocks (index + 1) n rest) (sym row.0)
             ∙ ap (λ xs. block l number index blocks (take c (part ++ rest)) ++ blocks_from l number blocks (index + 1) n xs) (sym row.1),
-        all_join l.formed part rest (and_parts (all l.formed part) _ tests.2).0 ih.1,
+        list_all-append l.formed part rest
+            ∙ and_from (list_all l.formed part) _ (and_parts (list_all l.formed part) _ tests.2).0 ih.1,
         record { enough = omega (arith, ih.2.enough, count.few); needed = omega (arith, needed) },
       )
 
-  pub number_shown : (n index : ℕ) (bytes : List ℕ) → 1 ≤ n → first_fault l number blocks index n bytes ≡ None → four_at bytes 0 ≡ number
+  pub number_shown : (n index : ℕ) (bytes : List ℕ) → 1 ≤ n → fault_in l number blocks index n bytes ≡ None → four_at bytes 0 ≡ number
   number_shown zero index bytes some clean = absurd (omega arith)
   number_shown (suc n) index bytes some clean =
       let here = take 512 bytes in
       let parts = or_else_none (fault l number index blocks here) _ clean in
       sym (same_four bytes) ∙ (header_parts l number index blocks here (right_parts l number index blocks here parts.0).1).number_is
 
+-- the reply that three tests show
+abbrev replied : ℕ → Bool → Bool → Bool → Refusal → Refusal → Refusal → Result ℕ Refusal
+replied n a b c x y z = cond (not a) (Err x) (cond (not b) (Err y) (cond (not c) (Err z) (Ok n)))
+
+accepts : (n : ℕ) (a b c : Bool) (x y z : Refusal) → a ≡ true → b ≡ true → c ≡ true → replied n a b c x y z ≡ Ok n
+accepts n a b c x y z p q r =
+    ap (λ v. replied n v b c x y z) p ∙ ap (λ v. replied n true v c x y z) q ∙ ap (λ v. replied n true true v x y z) r
+
+-- a reply that is no refusal passed every test
+accepted : (r n : ℕ) (a b c : Bool) (x y z : Refusal) → Ok r ≡ replied n a b c x y z → (a ≡ true) × (b ≡ true) × (r ≡ n)
+accepted r n true true true x y z e = (refl, refl, cc)
+accepted r n true true false x y z e = absurd (cc)
+accepted r n true false c x y z e = absurd (cc)
+accepted r n false b c x y z e = absurd (cc)
+
 there : {X : Type 0} (b : Bool) (x : X) → cond b None (Some x) ≡ None → b ≡ true
 there true x e = refl
-there false x e = let z : ◌≡◌ {A = ℕ} 0 1 = cc in absurd (omega arith)
+there false x e = absurd (cc)
 
 module _ {A : Type 0} (l : Layout A) (s : Sound l) where
   length_right : (size n : ℕ) → size ≡ 512 * n → 1 ≤ n → n ≤ l.limit → length_fault l size ≡ None
@@ -234,7 +245,7 @@ module _ {A : Type 0} (l : Layout A) (s : Sound l) where
 
   -- what write makes of a code, read reads as that code
   pub reads_back : (number : ℕ) (code : List A) → number < 2 ^ 32 → 1 ≤ length code → length code ≤ l.limit * l.capacity
-      → AllByRecursion (λ a. l.decode (l.encode a) ≡ a) code → all l.formed code ≡ true
+      → AllByRecursion (λ a. l.decode (l.encode a) ≡ a) code → list_all l.formed code ≡ true
       → ReadsAs l (image l number code) code × (length (image l number code) ≡ 512 * blocks_for l (length code))
   unfolding image
   reads_back number code n-fits some few each formed =
@@ -250,12 +261,12 @@ module _ {A : Type 0} (l : Layout A) (s : Sound l) where
       let named = number_shown l s number n n 0 bytes n-some all_made.0 in (
         record {
           faultless =
-              ap (λ f. or_else f (first_fault l (four_at bytes 0) (length bytes / 512) 0 (length bytes / 512) bytes))
+              ap (λ f. or_else f (fault_in l (four_at bytes 0) (length bytes / 512) 0 (length bytes / 512) bytes))
               (length_right (length bytes) n long n-some n-few)
-              ∙ ap (λ k. first_fault l (four_at bytes 0) k 0 k bytes) count
-              ∙ ap (λ k. first_fault l k n 0 n bytes) named
+              ∙ ap (λ k. fault_in l (four_at bytes 0) k 0 k bytes) count
+              ∙ ap (λ k. fault_in l k n 0 n bytes) named
               ∙ all_made.0;
-          code_is = ap (λ k. content l k bytes) count ∙ all_made.1;
+          code_is = ap (λ k. content_in l k bytes) count ∙ all_made.1;
         },
         long,
       )
@@ -267,8 +278,8 @@ module _ {A : Type 0} (l : Layout A) (s : Sound l) where
       let c = l.capacity in
       let n = length bytes / 512 in
       let number = four_at bytes 0 in
-      let code = content l n bytes in
-      let parts = or_else_none (length_fault l (length bytes)) (first_fault l number n 0 n bytes) clean in
+      let code = content_in l n bytes in
+      let parts = or_else_none (length_fault l (length bytes)) (fault_in l number n 0 n bytes) clean in
       let size = length_parts (length bytes) parts.0 in
       let All-right = right l s number n n 0 bytes (omega arith) (omega (arith, size.0)) each parts.1 in
       let counted : blocks_for l (length code) ≡ n = rows_counted c n (length code) s.some size.1 All-right.2 in
@@ -283,25 +294,17 @@ module _ {A : Type 0} (l : Layout A) (s : Sound l) where
       let room : 512 * blocks_for l (length code) ≤ length bytes = omega (arith, size.0, counted) in
       record {
         reply =
-            cond-true _ _ _ (and_from (leb 1 (length code)) _ (le-leb 1 (length code) some) (le-leb (length code) (l.limit * c) few))
-            ∙ cond-true _ _ _ (eq-eqb _ _ (all_leading l.formed code All-right.1))
-            ∙ cond-true _ _ _ (le-leb _ _ room)
+            accepts (blocks_for l (length code)) _ _ _ _ _ _
+            (and_from (leb 1 (length code)) _ (le-leb 1 (length code) some) (le-leb (length code) (l.limit * c) few))
+            (eq-eqb _ _ (all_leading l.formed code All-right.1)) (le-leb _ _ room)
             ∙ ap Ok counted;
         bytes = All-right.0 ∙ same;
       }
 
   read_accepted : (f : Option Refusal) (r n : ℕ) (b : Bool) (x : Refusal) → Ok r ≡ unless f (cond b (Ok n) (Err x)) → (f ≡ None) × (r ≡ n)
   read_accepted None r n true x e = (refl, cc)
-  read_accepted None r n false x e = let z : ◌≡◌ {A = ℕ} 0 1 = cc in absurd (omega arith)
-  read_accepted (Some f) r n b x e = let z : ◌≡◌ {A = ℕ} 0 1 = cc in absurd (omega arith)
-
-  -- a reply that is no refusal passed every test
-  accepted : (r n : ℕ) (a b c : Bool) (x y z : Refusal) → Ok r ≡ cond a (cond b (cond c (Ok n) (Err x)) (Err y)) (Err z)
-      → (a ≡ true) × (b ≡ true) × (r ≡ n)
-  accepted r n true true true x y z e = (refl, refl, cc)
-  accepted r n true true false x y z e = let z : ◌≡◌ {A = ℕ} 0 1 = cc in absurd (omega arith)
-  accepted r n true false c x y z e = let z : ◌≡◌ {A = ℕ} 0 1 = cc in absurd (omega arith)
-  accepted r n false b c x y z e = let z : ◌≡◌ {A = ℕ} 0 1 = cc in absurd (omega arith)
+  read_accepted None r n false x e = absurd (cc)
+  read_accepted (Some f) r n b x e = absurd (cc)
 
   pub write_read : (number : ℕ) (code : List A) (before after : List ℕ) (r : Result ℕ Refusal) → number < 2 ^ 32
       → IfOk r (λ _. AllByRecursion (λ a. l.decode (l.encode a) ≡ a) code)
@@ -310,10 +313,10 @@ module _ {A : Type 0} (l : Layout A) (s : Sound l) where
   write_read number code before after (Err e) n-fits each reply store = tt
   write_read number code before after (Ok n) n-fits each reply store =
       let m = length code in
-      let tests = accepted n (blocks_for l m) (leb 1 m && leb m (l.limit * l.capacity)) (eqb (leading l.formed code) m)
+      let tests = accepted n (blocks_for l m) (leb 1 m && leb m (l.limit * l.capacity)) (eqb (prefix_len l.formed code) m)
       (leb (512 * blocks_for l m) (length before)) _ _ _ reply in
       let both = and_parts (leb 1 m) (leb m (l.limit * l.capacity)) tests.0 in
-      let formed = leading_all l.formed code (eqb-true (leading l.formed code) m tests.1) in
+      let formed = leading_all l.formed code (eqb-true (prefix_len l.formed code) m tests.1) in
       let back = reads_back number code n-fits (leb-true 1 m both.0) (leb-true m (l.limit * l.capacity) both.1) each formed in
       let size : length (image l number code) ≡ 512 * n = back.1 ∙ ap (λ k. 512 * k) (sym tests.2) in
       let front : take (512 * n) after ≡ image l number code =

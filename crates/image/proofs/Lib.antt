@@ -2,9 +2,10 @@ pub mod Numbers
 pub mod Pieces
 pub mod Sound
 pub mod Encoding
-pub mod Walks
+pub mod Chunks
+pub mod Written
 pub mod Faults
-pub mod Scan
 pub mod BlockForm
 pub mod ImageForm
+pub mod Scan
 pub mod Damage

@@ -1,84 +1,53 @@
-use Rattle.std.proofs.Common.{◌≡◌, ℕ, ◌+◌, ◌-◌, ◌*◌, ◌<◌, ◌≤◌, List, length, get_or, take, drop, Some, None, Ok, Err, sym, ap, ◌∙◌, arith, length-append, length-drop}
-use Rattle.std.proofs.lemmas.List.{length-take-le, take_all}
+-- A walk along the blocks of an image.
+use Rattle.std.proofs.Common.{◌≡◌, ℕ, zero, suc, ◌+◌, ◌<◌, ◌≤◌, List, [], ◌∷◌, length, get_or, take, drop, All, Some, None, Ok, Err, sym, ap, ◌∙◌, arith, length-append}
+use Rattle.std.proofs.lemmas.List.{at_drop_more}
 use Rattle.refusal.specs.declared.Refusal.{Refusal}
+use Rattle.refusal.specs.Faults.{unless, or_else}
 use Rattle.image.specs.Layout.{Layout}
-use Rattle.image.specs.Reading.{instructions, fault, first_fault, content, unless, or_else}
-use Rattle.image.proofs.Walks.{row_cut, first_fault_next, content_next, held, length_instructions}
+use Rattle.image.specs.Reading.{fault, first_fault, held, content}
+use Rattle.image.proofs.Pieces.{joined_next}
+use Rattle.image.proofs.Chunks.{length_instructions}
 use Rattle.image.proofs.Faults.{refused_by, passed_by, or_else_none, right_parts, header_parts}
 
--- One turn of the loops that go through an image block by block.
-module _ {A : Type 0} (l : Layout A) (number blocks : ℕ) (image : List ℕ) (index : ℕ) (inside : index < blocks) where
-  -- the block as a loop cuts it out
-  abbrev pub piece : List ℕ
-  piece = take (512 * (index + 1) - 512 * index) (drop (512 * index) image)
+few : {A : Type 0} (l : Layout A) (number index blocks : ℕ) (block : List ℕ) → fault l number index blocks block ≡ None
+    → get_or block 8 0 ≤ l.capacity
+few l number index blocks block clean =
+    (header_parts l number index blocks block (right_parts l number index blocks block clean).1).count_is.few
 
-  abbrev pub here : List ℕ
-  here = take 512 (drop (512 * index) image)
+module _ {A : Type 0} (l : Layout A) (number n : ℕ) where
+  -- the block of this index, where no block before it has a fault
+  module _ (blocks : List (List ℕ)) (i : ℕ) (inside : i < length blocks) where
+    abbrev here : List ℕ
+    here = get_or blocks i []
 
-  abbrev pub now_on : List ℕ
-  now_on = drop (512 * (index + 1)) image
+    pub next : first_fault l number n i (drop i blocks) ≡ or_else (fault l number i n here) (first_fault l number n (i + 1) (drop (i + 1) blocks))
+    next = at_drop_more (first_fault l number n i) blocks i [] inside
 
-  pub is_piece : piece ≡ here
-  is_piece = row_cut image 512 index
+    pub stops : (e : Refusal) (m : ℕ) → Err e ≡ unless (fault l number i n here) (Ok m) → first_fault l number n i (drop i blocks) ≡ Some e
+    stops e m refused =
+        next ∙ ap (λ f. or_else f (first_fault l number n (i + 1) (drop (i + 1) blocks))) (refused_by (fault l number i n here) e m refused)
 
-  pub scan_stops : (e : Refusal) (n : ℕ) → Err e ≡ unless (fault l number index blocks piece) (Ok n)
-      → first_fault l number blocks index (blocks - index) (drop (512 * index) image) ≡ Some e
-  scan_stops e n h =
-      let found : fault l number index blocks here ≡ Some e =
-      ap (fault l number index blocks) (sym is_piece) ∙ refused_by (fault l number index blocks piece) e n h in
-      first_fault_next l number blocks image index inside
-      ∙ ap (λ f. or_else f (first_fault l number blocks (index + 1) (blocks - (index + 1)) now_on)) found
+    pub record Passed (m : ℕ) : Type 0 where
+      pub onward : first_fault l number n (i + 1) (drop (i + 1) blocks) ≡ first_fault l number n i (drop i blocks)
+      pub counted : length (content l (take (i + 1) blocks)) ≡ length (content l (take i blocks)) + m
+      pub few_here : m ≤ l.capacity
 
-  -- a block without fault
-  pub record Clean : Type 0 where
-    pub sound : fault l number index blocks here ≡ None
-    pub few : get_or here 8 0 ≤ l.capacity
+    pub passes : (m : ℕ) → Ok m ≡ unless (fault l number i n here) (Ok (get_or here 8 0)) → Passed m
+    passes m passed =
+        let both = passed_by (fault l number i n here) m (get_or here 8 0) passed in
+        let grown = ap length (joined_next (held l) blocks i [] inside) in
+        let more = length-append (content l (take i blocks)) (held l here) in
+        let size = length_instructions l (get_or here 8 0) (drop 12 here) in
+        let short = few l number i n here both.0 in
+        record {
+          onward = sym (next ∙ ap (λ f. or_else f (first_fault l number n (i + 1) (drop (i + 1) blocks))) both.0);
+          counted = omega (arith, both.1);
+          few_here = omega (arith, both.1);
+        }
 
-  clean : fault l number index blocks here ≡ None → Clean
-  clean e =
-      let parts = right_parts l number index blocks here e in
-      record { sound = e; few = (header_parts l number index blocks here parts.1).count_is.few }
-
-  pub onward : Clean
-      → first_fault l number blocks index (blocks - index) (drop (512 * index) image)
-      ≡ first_fault l number blocks (index + 1) (blocks - (index + 1)) now_on
-  onward c =
-      first_fault_next l number blocks image index inside
-      ∙ ap (λ f. or_else f (first_fault l number blocks (index + 1) (blocks - (index + 1)) now_on)) c.sound
-
-  pub counted : length (content l (blocks - index) (drop (512 * index) image))
-      ≡ get_or here 8 0 + length (content l (blocks - (index + 1)) now_on)
-  counted =
-      ap length (content_next l number blocks image index inside)
-      ∙ length-append (held l number blocks image index inside) (content l (blocks - (index + 1)) now_on)
-      ∙ ap (λ n. n + length (content l (blocks - (index + 1)) now_on)) (length_instructions l (get_or here 8 0) (drop 12 here))
-
-  pub scan_passes : (n : ℕ) → Ok n ≡ unless (fault l number index blocks piece) (Ok (get_or piece 8 0))
-      → Clean × (n ≡ get_or here 8 0)
-  scan_passes n h =
-      let both = passed_by (fault l number index blocks piece) n (get_or piece 8 0) h in (
-        clean (ap (fault l number index blocks) (sym is_piece) ∙ both.0),
-        both.1 ∙ ap (λ xs. get_or xs 8 0) is_piece,
-      )
-
-  pub scan_clean : first_fault l number blocks index (blocks - index) (drop (512 * index) image) ≡ None → Clean
-  scan_clean e =
-      clean (or_else_none (fault l number index blocks here) _ (sym (first_fault_next l number blocks image index inside) ∙ e)).0
-
-  -- what a loop lends of the block to decode it
-  pub is_held : length image ≡ 512 * blocks → (n : ℕ) → n ≡ get_or piece 8 0
-      → instructions l n (take 500 (drop 12 piece)) ≡ held l number blocks image index inside
-  is_held long n e =
-      let size : length here ≡ 512 =
-      length-take-le 512 (drop (512 * index) image) (let m = length-drop (512 * index) image in omega arith) in
-      let tail : take 500 (drop 12 here) ≡ drop 12 here =
-      take_all 500 (drop 12 here) (let m = length-drop 12 here in omega arith) in
-      ap (λ m. instructions l m (take 500 (drop 12 piece))) e
-      ∙ ap (λ xs. instructions l (get_or xs 8 0) (take 500 (drop 12 xs))) is_piece
-      ∙ ap (instructions l (get_or here 8 0)) tail
-
-  pub length_body : length image ≡ 512 * blocks → length (take 500 (drop 12 piece)) ≡ 500
-  length_body long =
-      let outer = length-drop (512 * index) image in
-      let size : length piece ≡ 512 = ap length is_piece ∙ length-take-le 512 (drop (512 * index) image) (omega arith) in
-      length-take-le 500 (drop 12 piece) (let m = length-drop 12 piece in omega arith)
+  pub all_few : (i : ℕ) (blocks : List (List ℕ)) → first_fault l number n i blocks ≡ None → All (λ block. get_or block 8 0 ≤ l.capacity) blocks
+  all_few i [] clean k d h = absurd (omega arith)
+  all_few i (block ∷ later) clean zero d h =
+      few l number i n block (or_else_none (fault l number i n block) (first_fault l number n (i + 1) later) clean).0
+  all_few i (block ∷ later) clean (suc k) d h =
+      all_few (i + 1) later (or_else_none (fault l number i n block) (first_fault l number n (i + 1) later) clean).1 k d (omega arith)

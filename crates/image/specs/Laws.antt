@@ -3,9 +3,10 @@ use Rattle.refusal.specs.declared.Refusal.{Refusal}
 use Rattle.refusal.specs.declared.Reason.TheVariants.{BlockCheck}
 use Rattle.crc.specs.Crc.{Bytes, Burst}
 use Rattle.machine.specs.declared.instruction.Instruction.{Instruction}
+use Rattle.refusal.specs.Faults.{refusal}
 use Rattle.image.specs.Layout.{Layout, layout}
 use Rattle.image.specs.Blocks as blocks
-use Rattle.image.specs.Writing.{refusal, write_reply}
+use Rattle.image.specs.Writing.{write_reply}
 use Rattle.image.specs.Reading.{image_fault, code_of}
 
 module _ {A : Type 0} (l : Layout A) where

@@ -1,6 +1,5 @@
 use Rattle.std.specs.Prelude.{ℕ, ◌+◌, ◌*◌, ◌/◌, ◌%◌, ◌^◌, Bool, List, [], ◌∷◌, pos, slice_index}
-use Rattle.std.specs.Int.{w32}
-use Rattle.std.proofs.Common.{to_z, of_z}
+use Rattle.std.specs.Int.{w32, cast_signed, cast_unsigned}
 use Rattle.machine.specs.declared.instruction.Instruction.{Instruction}
 use Rattle.machine.specs.Form as form
 
@@ -19,7 +18,7 @@ pub record Layout (A : Type 0) : Type 0 where
 -- op, r, s, t, then d in four bytes, two's complement, high byte first
 abbrev pub encode : Instruction → List ℕ
 encode i =
-    let d : ℕ = of_z w32 i.d in
+    let d : ℕ = cast_unsigned w32 i.d in
     i.op ∷ i.r ∷ i.s ∷ i.t ∷ d / 2 ^ 24 % 256 ∷ d / 2 ^ 16 % 256 ∷ d / 2 ^ 8 % 256 ∷ d % 256 ∷ []
 
 abbrev pub decode : List ℕ → Instruction
@@ -28,7 +27,7 @@ decode bs = record {
   r = slice_index bs 1;
   s = slice_index bs 2;
   t = slice_index bs 3;
-  d = to_z w32 (slice_index bs 4 * 2 ^ 24 + slice_index bs 5 * 2 ^ 16 + slice_index bs 6 * 2 ^ 8 + slice_index bs 7);
+  d = cast_signed w32 (slice_index bs 4 * 2 ^ 24 + slice_index bs 5 * 2 ^ 16 + slice_index bs 6 * 2 ^ 8 + slice_index bs 7);
 }
 
 abbrev pub blank : Instruction

@@ -1,3 +1,7 @@
+ghost use Rattle.std.specs.Prelude.{◌≡◌};
+ghost use Rattle.image.specs.Layout.{layout};
+ghost use Rattle.image.specs.Reading.{count_right};
+
 // Every block has 512 bytes: a header, instructions, zeros and the check.
 pub const BLOCK: usize = 512;
 
@@ -11,3 +15,25 @@ pub const WIDTH: usize = 8;
 pub const CAPACITY: usize = 62;
 
 pub const LIMIT: usize = 794;
+
+// Which block of which image a block is.
+#[derive(Clone, Copy)]
+pub(crate) struct Label {
+    pub(crate) number: u32,
+    pub(crate) index: u16,
+    pub(crate) blocks: u16,
+}
+
+impl Label {
+    // Every block but the last is full.
+    pub(crate) fn allows(self, count: u8) -> bool
+        ensures { result ≡ count_right layout self.index self.blocks count }
+    {
+        let count = usize::from(count);
+        if usize::from(self.index) + 1 < usize::from(self.blocks) {
+            count == CAPACITY
+        } else {
+            (1..=CAPACITY).contains(&count)
+        }
+    }
+}

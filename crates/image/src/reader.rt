@@ -1,200 +1,17 @@
-ghost use Rattle.std.specs.Prelude.{◌≡◌, ℕ, ◌+◌, ◌*◌, ◌/◌, ◌<◌, ◌≤◌, ◌++◌, length, take, drop, IfOk, if◌then◌else◌, Some, None, Ok, Err, slice_index};
+ghost use Rattle.std.specs.Prelude.{◌≡◌, ℕ, ◌+◌, ◌*◌, ◌/◌, ◌<◌, ◌≤◌, ◌++◌, length, take, drop, map, IfOk, IfErr, OnOk, Some, None, Ok, Err, slice_index, slice_index_or, All, []};
+ghost use Rattle.std.specs.Bool.{OnTrue};
+ghost use Rattle.std.specs.List.{list_all, flat_map};
+ghost use Rattle.std.specs.Simd.{first_chunks};
 ghost use Rattle.machine.specs.Form.{formed};
+ghost use Rattle.refusal.specs.Faults.{unless};
 ghost use Rattle.image.specs.Layout.{decode, layout};
-ghost use Rattle.image.specs.Reading.{header_of, header_found, all, all_zero, instructions, count_right, header_right, body_right, fault, first_fault, content, unless, or_else, length_fault, four_at, read_reply, code_after};
+ghost use Rattle.image.specs.Reading.{header_of, header_found, all_zero, header_right, body_right, fault, first_fault, blocks_of, length_fault, four_at, read_reply, code_after, content};
 ghost use Rattle.image.specs.Laws.{WrittenAs, DamageFound};
 
-use crate::layout::{BLOCK, CAPACITY, COVERED, HEADER, LIMIT, WIDTH};
+use crate::layout::{BLOCK, COVERED, HEADER, LIMIT, Label, WIDTH};
 use crc::is_sealed;
 use machine::instruction::Instruction;
 use refusal::{Reason, Refusal};
-
-fn decoded(bytes: &[u8]) -> Instruction
-    requires { length bytes.now ≡ 8 }
-    ensures { result ≡ decode bytes.now }
-{
-    let d = i32::from_be_bytes([bytes[4], bytes[5], bytes[6], bytes[7]]);
-    Instruction {
-        op: bytes[0],
-        r: bytes[1],
-        s: bytes[2],
-        t: bytes[3],
-        d,
-    }
-}
-
-fn are_formed(bytes: &[u8], count: usize) -> bool
-    requires { 8 * count ≤ length bytes.now }
-    ensures { result ≡ all formed (instructions layout count bytes.now) }
-{
-    for k in 0..count {
-        if !decoded(&bytes[WIDTH * k..WIDTH * (k + 1)]).has_form() {
-            return false;
-        }
-    }
-    true
-}
-
-fn are_zero(bytes: &[u8]) -> bool
-    ensures { result ≡ all_zero bytes.now }
-{
-    for b in bytes {
-        if *b != 0 {
-            return false;
-        }
-    }
-    true
-}
-
-// Every block but the last is full.
-fn is_count_right(index: usize, blocks: usize, count: usize) -> bool
-    requires { index < 794 }
-    ensures { result ≡ count_right layout index blocks count }
-{
-    if count < 1 {
-        false
-    } else if index + 1 < blocks {
-        count == CAPACITY
-    } else {
-        count <= CAPACITY
-    }
-}
-
-fn is_header_right(block: &[u8], number: u32, index: usize, blocks: usize) -> bool
-    requires { (length block.now ≡ 512) × (index < 794) }
-    ensures { result ≡ header_right layout number index blocks block.now }
-{
-    u32::from_be_bytes([block[0], block[1], block[2], block[3]]) == number
-        && u16::from_be_bytes([block[4], block[5]]) as usize == index
-        && u16::from_be_bytes([block[6], block[7]]) as usize == blocks
-        && is_count_right(index, blocks, block[8] as usize)
-        && block[9] == 0
-        && block[10] == 0
-        && block[11] == 0
-}
-
-// The instruction count of a block, unless its header is wrong.
-fn header_count(block: &[u8], number: u32, index: usize, blocks: usize) -> Option<usize>
-    requires { (length block.now ≡ 512) × (index < 794) }
-    ensures { result ≡ (if header_right layout number index blocks block.now then Some (slice_index block.now 8) else None) }
-{
-    if is_header_right(block, number, index, blocks) {
-        Some(block[8] as usize)
-    } else {
-        None
-    }
-}
-
-fn is_body_right(block: &[u8], count: usize) -> bool
-    requires { (length block.now ≡ 512) × ((count ≤ 62) × (count ≡ slice_index block.now 8)) }
-    ensures { result ≡ body_right layout block.now }
-{
-    are_formed(&block[HEADER..BLOCK], count) && are_zero(&block[HEADER + WIDTH * count..COVERED])
-}
-
-// The instruction count of a right block, or its first fault.
-fn check_block(block: &[u8], number: u32, index: usize, blocks: usize) -> Result<usize, Refusal>
-    requires { (length block.now ≡ 512) × (index < 794) }
-    ensures { result ≡ unless (fault layout number index blocks block.now) (Ok (slice_index block.now 8)) }
-{
-    let true = is_sealed(block) else {
-        return Err(Refusal {
-            reason: Reason::BlockCheck,
-            place: index,
-        });
-    };
-    let Some(count) = header_count(block, number, index, blocks) else {
-        return Err(Refusal {
-            reason: Reason::BlockHeader,
-            place: index,
-        });
-    };
-    let true = is_body_right(block, count) else {
-        return Err(Refusal {
-            reason: Reason::InstructionForm,
-            place: index,
-        });
-    };
-    Ok(count)
-}
-
-// The number of blocks of an image.
-pub fn block_count(image: &[u8]) -> Result<usize, Refusal>
-    ensures { result ≡ unless (length_fault layout (length image.now)) (Ok (length image.now / 512)) }
-{
-    let blocks = image.len() / BLOCK;
-    if image.len() % BLOCK != 0 || blocks < 1 || blocks > LIMIT {
-        return Err(Refusal {
-            reason: Reason::ImageLength,
-            place: 0,
-        });
-    }
-    Ok(blocks)
-}
-
-// The instruction count of an image, or its first fault in a block.
-fn check_blocks(image: &[u8], blocks: usize) -> Result<usize, Refusal>
-    requires { (length image.now ≡ 512 * blocks) × ((1 ≤ blocks) × (blocks ≤ 794)) }
-    ensures { result ≡ unless (first_fault layout (four_at image.now 0) blocks 0 blocks image.now) (Ok (length (content layout blocks image.now))) }
-{
-    let number = u32::from_be_bytes([image[0], image[1], image[2], image[3]]);
-    let mut total = 0;
-    for index in 0..blocks {
-        let block = &image[BLOCK * index..BLOCK * (index + 1)];
-        total += check_block(block, number, index, blocks)?;
-    }
-    Ok(total)
-}
-
-fn decode_part(bytes: &[u8], part: &mut [Instruction])
-    requires { 8 * length part.old ≤ length bytes.now }
-    ensures { part.new ≡ instructions layout (length part.old) bytes.now }
-{
-    for k in 0..part.len() {
-        part[k] = decoded(&bytes[WIDTH * k..WIDTH * (k + 1)]);
-    }
-}
-
-fn decode_blocks(image: &[u8], blocks: usize, code: &mut [Instruction])
-    requires whole { (length image.now ≡ 512 * blocks) × (blocks ≤ 794) }
-    requires clean { first_fault layout (four_at image.now 0) blocks 0 blocks image.now ≡ None }
-    requires room { length (content layout blocks image.now) ≤ length code.old }
-    ensures { code.new ≡ content layout blocks image.now ++ drop (length (content layout blocks image.now)) code.old }
-{
-    let mut at = 0;
-    for index in 0..blocks {
-        let block = &image[BLOCK * index..BLOCK * (index + 1)];
-        let count = block[8] as usize;
-        decode_part(&block[HEADER..BLOCK], &mut code[at..at + count]);
-        at += count;
-    }
-}
-
-fn read_image(image: &[u8], code: &mut [Instruction]) -> Result<usize, Refusal>
-    ensures reply { result ≡ read_reply layout image.now (length code.old) }
-    ensures store { code.new ≡ code_after layout image.now code.old result }
-{
-    let blocks = block_count(image)?;
-    let count = check_blocks(image, blocks)?;
-    if code.len() < count {
-        return Err(Refusal {
-            reason: Reason::CodeStoreTooShort,
-            place: 0,
-        });
-    }
-    decode_blocks(image, blocks, code);
-    Ok(count)
-}
-
-// Decodes an image to the front of the code store and gives its number of instructions.
-pub fn read(image: &[u8], code: &mut [Instruction]) -> Result<usize, Refusal>
-    ensures reply { result ≡ read_reply layout image.now (length code.old) }
-    ensures store { code.new ≡ code_after layout image.now code.old result }
-    ensures one_form { IfOk result (λ n. WrittenAs layout image.now (four_at image.now 0) (take n code.new)) }
-    ensures damage { DamageFound layout image.now result }
-{
-    read_image(image, code)
-}
 
 // What the header and the last two bytes of a block hold.
 #[derive(Clone, Copy, PartialEq, Eq, Debug)]
@@ -206,16 +23,16 @@ pub struct Header {
     pub check: u16,
 }
 
-fn decoded_header(block: &[u8]) -> Header
-    requires { length block.now ≡ 512 }
+fn header_in(block: &[u8; BLOCK]) -> Header
     ensures { result ≡ header_of block.now }
 {
+    let [n0, n1, n2, n3, i0, i1, b0, b1, count, .., c0, c1] = *block;
     Header {
-        number: u32::from_be_bytes([block[0], block[1], block[2], block[3]]),
-        index: u16::from_be_bytes([block[4], block[5]]),
-        blocks: u16::from_be_bytes([block[6], block[7]]),
-        count: block[8],
-        check: u16::from_be_bytes([block[COVERED], block[COVERED + 1]]),
+        number: u32::from_be_bytes([n0, n1, n2, n3]),
+        index: u16::from_be_bytes([i0, i1]),
+        blocks: u16::from_be_bytes([b0, b1]),
+        count,
+        check: u16::from_be_bytes([c0, c1]),
     }
 }
 
@@ -223,8 +40,165 @@ fn decoded_header(block: &[u8]) -> Header
 pub fn header_at(image: &[u8], index: usize) -> Option<Header>
     ensures { result ≡ header_found image.now index }
 {
-    if index >= image.len() / BLOCK {
-        return None;
+    let (blocks, _) = image.as_chunks::<BLOCK>();
+    blocks.get(index).map(header_in)
+}
+
+fn blocks_in(image: &[u8]) -> Result<&[[u8; BLOCK]], Refusal>
+    ensures whole { OnOk result (length_fault layout (length image.now) ≡ None) }
+    ensures cut { IfOk result (λ blocks. blocks.now ≡ blocks_of image.now) }
+    ensures len { IfOk result (λ blocks. length blocks.now ≡ length image.now / 512) }
+    ensures number { IfOk result (λ blocks. four_at (slice_index_or blocks.now 0 []) 0 ≡ four_at image.now 0) }
+    ensures err { IfErr result (λ e. length_fault layout (length image.now) ≡ Some e) }
+{
+    let (blocks, rest) = image.as_chunks::<BLOCK>();
+    if !rest.is_empty() || blocks.is_empty() || blocks.len() > LIMIT {
+        return Err(Reason::ImageLength.at(0));
     }
-    Some(decoded_header(&image[BLOCK * index..BLOCK * (index + 1)]))
+    Ok(blocks)
+}
+
+// The number of blocks of an image.
+pub fn block_count(image: &[u8]) -> Result<usize, Refusal>
+    ensures { result ≡ unless (length_fault layout (length image.now)) (Ok (length image.now / 512)) }
+{
+    Ok(blocks_in(image)?.len())
+}
+
+fn decoded(bytes: &[u8; WIDTH]) -> Instruction
+    ensures { result ≡ decode bytes.now }
+{
+    let [op, r, s, t, d0, d1, d2, d3] = *bytes;
+    let d = i32::from_be_bytes([d0, d1, d2, d3]);
+    Instruction { op, r, s, t, d }
+}
+
+fn are_formed(slots: &[[u8; WIDTH]]) -> bool
+    ensures { result ≡ list_all (λ slot. formed (decode slot)) slots.now }
+{
+    slots.iter().all(|slot| decoded(slot).has_form())
+}
+
+fn are_zero(bytes: &[u8]) -> bool
+    ensures { result ≡ all_zero bytes.now }
+{
+    bytes.iter().all(|b| *b == 0)
+}
+
+fn is_header_right(block: &[u8; BLOCK], label: Label) -> bool
+    ensures right { result ≡ header_right layout label.number label.index label.blocks block.now }
+    ensures few { OnTrue result (slice_index block.now 8 ≤ 62) }
+{
+    let header = header_in(block);
+    header.number == label.number
+        && header.index == label.index
+        && header.blocks == label.blocks
+        && label.allows(header.count)
+        && block[9] == 0
+        && block[10] == 0
+        && block[11] == 0
+}
+
+// The bytes of each instruction of a block.
+fn slots_of(block: &[u8; BLOCK]) -> &[[u8; WIDTH]]
+    requires { slice_index block.now 8 ≤ 62 }
+    ensures slots { result.now ≡ first_chunks 8 (slice_index block.now 8) (drop 12 block.now) }
+    ensures len { length result.now ≡ slice_index block.now 8 }
+{
+    let (slots, _) = block[HEADER..COVERED].as_chunks::<WIDTH>();
+    &slots[..usize::from(block[8])]
+}
+
+fn is_body_right(block: &[u8; BLOCK]) -> bool
+    requires { slice_index block.now 8 ≤ 62 }
+    ensures { result ≡ body_right layout block.now }
+{
+    let slots = slots_of(block);
+    are_formed(slots) && are_zero(&block[HEADER + WIDTH * slots.len()..COVERED])
+}
+
+// The instruction count of a right block, or its first fault.
+#[tactic(auto, unfolding(crate::specs::Reading::fault))]
+fn check_block(block: &[u8; BLOCK], label: Label) -> Result<usize, Refusal>
+    ensures { result ≡ unless (fault layout label.number label.index label.blocks block.now)
+        (Ok (slice_index block.now 8)) }
+{
+    let index = usize::from(label.index);
+    if !is_sealed(block) {
+        return Err(Reason::BlockCheck.at(index));
+    }
+    if !is_header_right(block, label) {
+        return Err(Reason::BlockHeader.at(index));
+    }
+    if !is_body_right(block) {
+        return Err(Reason::InstructionForm.at(index));
+    }
+    Ok(usize::from(block[8]))
+}
+
+// The instruction count of an image, or its first fault in a block.
+fn check_blocks(number: u32, blocks: &[[u8; BLOCK]]) -> Result<usize, Refusal>
+    requires { length blocks.now ≤ 794 }
+    ensures reply { result ≡ unless (first_fault layout number (length blocks.now) 0 blocks.now)
+        (Ok (length (content layout blocks.now))) }
+    ensures few { OnOk result (All (λ block. slice_index block 8 ≤ 62) blocks.now) }
+{
+    let mut total = 0;
+    for (index, block) in blocks.iter().enumerate() {
+        let label = Label {
+            number,
+            index: index as u16,
+            blocks: blocks.len() as u16,
+        };
+        total += check_block(block, label)?;
+    }
+    Ok(total)
+}
+
+// After `zip` nothing is known of the instructions, so slots go by index.
+fn decode_part(slots: &[[u8; WIDTH]], part: &mut [Instruction])
+    requires { length part.old ≡ length slots.now }
+    ensures { part.new ≡ map decode slots.now }
+{
+    for (k, instruction) in part.iter_mut().enumerate() {
+        *instruction = decoded(&slots[k]);
+    }
+}
+
+fn decode_blocks(blocks: &[[u8; BLOCK]], code: &mut [Instruction])
+    requires few { All (λ block. slice_index block 8 ≤ 62) blocks.now }
+    requires room { length (content layout blocks.now) ≤ length code.old }
+    ensures { let held = content layout blocks.now in code.new ≡ held ++ drop (length held) code.old }
+{
+    let mut at = 0;
+    for block in blocks {
+        let slots = slots_of(block);
+        let end = at + slots.len();
+        decode_part(slots, &mut code[at..end]);
+        at = end;
+    }
+}
+
+fn read_image(image: &[u8], code: &mut [Instruction]) -> Result<usize, Refusal>
+    ensures reply { result ≡ read_reply layout image.now (length code.old) }
+    ensures store { code.new ≡ code_after layout image.now code.old result }
+{
+    let blocks = blocks_in(image)?;
+    let number = header_in(&blocks[0]).number;
+    let count = check_blocks(number, blocks)?;
+    if code.len() < count {
+        return Err(Reason::CodeStoreTooShort.at(0));
+    }
+    decode_blocks(blocks, code);
+    Ok(count)
+}
+
+// Decodes an image to the front of the code store and gives its number of instructions.
+pub fn read(image: &[u8], code: &mut [Instruction]) -> Result<usize, Refusal>
+    ensures reply { result ≡ read_reply layout image.now (length code.old) }
+    ensures store { code.new ≡ code_after layout image.now code.old result }
+    ensures one_form { IfOk result (λ n. WrittenAs layout image.now (four_at image.now 0) (take n code.new)) }
+    ensures damage { DamageFound layout image.now result }
+{
+    read_image(image, code)
 }

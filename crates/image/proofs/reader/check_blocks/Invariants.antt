@@ -1,12 +1,12 @@
-use Rattle.std.proofs.Common.{◌≡◌, ◌+◌, ◌-◌, ◌*◌, ◌≤◌, length, drop}
+use Rattle.std.proofs.Common.{◌≡◌, ◌*◌, ◌≤◌, length, take, drop}
 use Rattle.image.specs.Layout.{layout}
 use Rattle.image.specs.Reading.{first_fault, content}
 use Rattle.image.proofs.reader.check_blocks.Given as goal
 
 abbrev pub invariant-loop-index : goal.invariant-loop-index
-invariant-loop-index l =
-    (first_fault layout l.number l.blocks l.index (l.blocks - l.index) (drop (512 * l.index) l.image)
-    ≡ first_fault layout l.number l.blocks 0 l.blocks l.image)
-    × (l.total + length (content layout (l.blocks - l.index) (drop (512 * l.index) l.image))
-    ≡ length (content layout l.blocks l.image))
-    × (l.total ≤ 62 * l.index)
+invariant-loop-index l = record {
+  faults : first_fault layout l.number (length l.blocks) l.index (drop l.index l.blocks)
+      ≡ first_fault layout l.number (length l.blocks) 0 l.blocks;
+  counted : l.total ≡ length (content layout (take l.index l.blocks));
+  few : l.total ≤ 62 * l.index;
+}

@@ -1,11 +1,11 @@
-use Rattle.std.proofs.Common.{◌≡◌, ◌+◌, ◌-◌, ◌*◌, ◌++◌, length, take, drop, None}
+use Rattle.std.proofs.Common.{◌≡◌, length, take, drop}
 use Rattle.image.specs.Layout.{layout}
-use Rattle.image.specs.Reading.{four_at, first_fault, content}
+use Rattle.image.specs.Reading.{content}
 use Rattle.image.proofs.reader.decode_blocks.Given as goal
 
-abbrev pub invariant-loop-index : goal.invariant-loop-index
-invariant-loop-index l =
-    (first_fault layout (four_at l.image 0) l.blocks l.index (l.blocks - l.index) (drop (512 * l.index) l.image) ≡ None)
-    × (take l.at l.code ++ content layout (l.blocks - l.index) (drop (512 * l.index) l.image) ≡ content layout l.blocks l.image)
-    × (l.at + length (content layout (l.blocks - l.index) (drop (512 * l.index) l.image)) ≡ length (content layout l.blocks l.image))
-    × (drop (length (content layout l.blocks l.image)) l.code ≡ drop (length (content layout l.blocks l.image)) l.initial.code)
+abbrev pub invariant-loop-block : goal.invariant-loop-block
+invariant-loop-block l = record {
+  counted : l.at ≡ length (content layout (take l.block-index l.blocks));
+  front : take l.at l.code ≡ content layout (take l.block-index l.blocks);
+  rest : drop l.at l.code ≡ drop l.at l.initial.code;
+}
