@@ -23,7 +23,7 @@ pub fn class_of(byte: u8) -> Class
     }
 }
 
-// How many letters stand in front.
+// How many letters stand in front. Each test has its own chain: over a closure the clause would speak of its calls.
 pub fn leading_letters(s: &[u8]) -> usize
     ensures value { result ≡ prefix_len letter s.now }
     ensures within { result ≤ length s.now }

@@ -3,8 +3,8 @@ use Rattle.machine.specs.declared.instruction.Instruction.{Instruction}
 use Rattle.refusal.specs.declared.Refusal.{Refusal}
 use Rattle.refusal.specs.declared.Reason.TheVariants.{CodeStoreTooShort}
 use Rattle.image.specs.Layout.{layout}
-use Rattle.image.specs.Writing.{refusal}
-use Rattle.image.specs.Reading.{unless, code_of, image_fault, read_reply}
+use Rattle.refusal.specs.Faults.{refusal, unless}
+use Rattle.image.specs.Reading.{code_of, image_fault, read_reply}
 use Rattle.gateway.proofs.reading.read_code.Goals as goal
 
 -- the count that is answered is that of the code, which fits
