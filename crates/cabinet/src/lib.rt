@@ -22,7 +22,8 @@ const LARGEST: usize = 16384;
 
 const GRANT: u32 = 1_000_000;
 
-// An empty cabinet. Neither state can be copied or let go.
+// An empty cabinet. Neither state can be copied or let go. Each call takes the stores one by one: they are the caller's, who
+// may hand in parts of larger ones.
 pub struct Empty {}
 
 // A loaded cabinet: its registers, its number of instructions, and the lengths of the stores that it was loaded with.

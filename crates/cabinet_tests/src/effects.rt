@@ -114,7 +114,7 @@ fn after(register: u8, value: i32) -> Result<[i32; 8], Fail> {
     if register > 7 {
         return Err(Fail::new("no such register"));
     }
-    after[register as usize] = value;
+    after[usize::from(register)] = value;
     Ok(after)
 }
 
@@ -148,7 +148,7 @@ fn check_stored(rt: &impl Abort, stored: &Stored) -> Result<(), Fail> {
     assert_eq!(rt; registers, after(7, 2)?);
     let mut expected = NUMBERED;
     assert!(rt; stored.1 < 16);
-    expected[stored.1 as usize] = stored.2;
+    expected[usize::from(stored.1)] = stored.2;
     assert_eq!(rt; cells, expected);
     Ok(())
 }

@@ -28,28 +28,16 @@ struct Left {
     ran: Ran,
 }
 
-// The runs of these grants, one after the other; tells the last.
-fn run_each(
-    code: &[Instruction],
-    registers: &mut [i32; 8],
-    cells: &mut [i32],
-    port: &mut Record,
-    grants: &[u32],
-) -> Ran {
-    let mut ran = told(Stop::Spent, 0);
-    for grant in grants {
-        ran = machine::run(code, registers, cells, port, *grant);
-    }
-    ran
-}
-
-// They go over one record port with no reading.
+// The runs of these grants, one after the other, over one record port with no reading.
 fn run_all(code: &[Instruction], grants: &[u32]) -> Left {
     let mut registers = [0; 8];
     let mut cells = [0; 16];
     let mut log = [MARK; 2];
     let mut port = Record::new(&[], &mut log);
-    let ran = run_each(code, &mut registers, &mut cells, &mut port, grants);
+    let mut ran = told(Stop::Spent, 0);
+    for grant in grants {
+        ran = machine::run(code, &mut registers, &mut cells, &mut port, *grant);
+    }
     let written = port.written();
     Left {
         registers,

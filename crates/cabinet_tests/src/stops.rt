@@ -93,27 +93,15 @@ fn shut_port() -> Live {
     port
 }
 
-// The code stops at once, whatever the grant.
-fn check_told(
-    rt: &impl Abort,
-    code: &[Instruction],
-    registers: &mut [i32; 8],
-    cells: &mut [i32],
-    port: &mut Live,
-    stop: Stop,
-) {
-    for grant in [1, 2, 1_000_000] {
-        let ran = machine::run(code, registers, cells, port, grant);
-        assert_eq!(rt; ran, Ran { stop, steps: 0 });
-    }
-}
-
-// And it leaves all as it was.
+// The code stops at once, whatever the grant, and leaves all as it was.
 fn check_stop(rt: &impl Abort, code: &[Instruction], before: [i32; 8], stop: Stop) {
     let mut registers = before;
     let mut cells = NUMBERED;
     let mut port = shut_port();
-    check_told(rt, code, &mut registers, &mut cells, &mut port, stop);
+    for grant in [1, 2, 1_000_000] {
+        let ran = machine::run(code, &mut registers, &mut cells, &mut port, grant);
+        assert_eq!(rt; ran, Ran { stop, steps: 0 });
+    }
     assert_eq!(rt; registers, before);
     assert_eq!(rt; cells, NUMBERED);
     assert_eq!(rt; port.fetch(), Some(55));

@@ -138,6 +138,7 @@ pub fn work<P: Port, O: Others<P>>(
     ensures { Worked P.Port.ways P.Port.meaning O.Others.touched others.old port.old (record { cabinet = Off empty; code = code.old; memory = memory.old; port = P.Port.meaning port.old }) orders.now replies.old replies.new others.new port.new (record { cabinet = result; code = code.new; memory = memory.new; port = P.Port.meaning port.new }) }
 {
     let mut cabinet = Cabinet::Off(empty);
+    // After `zip` with `iter_mut` nothing is known of the replies, so they go by index.
     let count = orders.len().min(replies.len());
     for (i, order) in orders[..count].iter().enumerate() {
         others.touch(port);

@@ -99,7 +99,8 @@ fn is_header_right(block: &[u8; BLOCK], label: Label) -> bool
         && block[11] == 0
 }
 
-// The bytes of each instruction of a block.
+// The bytes of each instruction of a block. That there are at most 62 stands in clauses and not in a type: blocks are read where
+// they lie, and a list of checked ones would need a store.
 fn slots_of(block: &[u8; BLOCK]) -> &[[u8; WIDTH]]
     requires { slice_index block.now 8 ≤ 62 }
     ensures slots { result.now ≡ first_chunks 8 (slice_index block.now 8) (drop 12 block.now) }

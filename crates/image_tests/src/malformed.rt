@@ -28,11 +28,13 @@ static MALFORMED: [Row; 16] = [
 // An image of one block whose instruction is put there byte by byte.
 fn image_with(heap: Global, row: &Row) -> Result<Vec<u8>, Fail> {
     let Row(op, r, s, t, d) = *row;
-    let d = d.to_be_bytes();
+    let [d0, d1, d2, d3] = d.to_be_bytes();
     let mut image = sample_image(heap, 1, 512)?;
-    for (k, byte) in [op, r, s, t, d[0], d[1], d[2], d[3]].iter().enumerate() {
-        put(image.as_mut_slice(), k.saturating_add(12), *byte)?;
-    }
+    let first = image
+        .as_mut_slice()
+        .get_mut(12..20)
+        .ok_or("no instruction")?;
+    first.copy_from_slice(&[op, r, s, t, d0, d1, d2, d3]);
     reseal(image.as_mut_slice(), 0)?;
     Ok(image)
 }

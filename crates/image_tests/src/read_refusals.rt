@@ -62,7 +62,7 @@ static LATE: [Damage; 2] = [Damage(793, 12, 17, 793), Damage(793, 509, 1, 793)];
 
 fn strike(image: &mut [u8], damage: &Damage) -> Result<(), Fail> {
     let Damage(block, at, value, _) = *damage;
-    put(image, 512 * block as usize + at as usize, value)
+    put(image, 512 * usize::from(block) + usize::from(at), value)
 }
 
 fn check_unsealed(

@@ -18,12 +18,12 @@ static SIZES: [Size; 4] = [
 
 fn check_last_header(rt: &impl Abort, image: &[u8], size: &Size) -> Result<(), Fail> {
     let Size(_, blocks, _, index, count) = *size;
-    let last = header_at(image, index as usize).ok_or("no last block")?;
+    let last = header_at(image, usize::from(index)).ok_or("no last block")?;
     assert_eq!(rt; last.number, 0xfffffffe);
     assert_eq!(rt; last.index, index);
     assert_eq!(rt; last.blocks, blocks);
     assert_eq!(rt; last.count, count);
-    assert!(rt; header_at(image, blocks as usize).is_none());
+    assert!(rt; header_at(image, usize::from(blocks)).is_none());
     Ok(())
 }
 
@@ -51,11 +51,11 @@ fn check_size(rt: &(impl Abort + AllocGlobal), size: &Size) -> Result<(), Fail> 
     let code = sample_code(rt.alloc(), instructions)?;
     let mut store = vec![in rt.alloc(); MARK; bytes + 3]?;
     let written = image::write(0xfffffffe, code.as_slice(), store.as_mut_slice())?;
-    assert_eq!(rt; written, blocks as usize);
+    assert_eq!(rt; written, usize::from(blocks));
     let image = store.as_slice().get(0..bytes).ok_or("no image")?;
     let rest = store.as_slice().get(bytes..).ok_or("no rest")?;
     assert!(rt; rest.len() == 3 && are_all(&MARK, rest));
-    assert_eq!(rt; image::block_count(image)?, blocks as usize);
+    assert_eq!(rt; image::block_count(image)?, usize::from(blocks));
     check_last_header(rt, image, size)?;
     check_reading(rt, image, code.as_slice())
 }

@@ -28,7 +28,7 @@ static CASES: [Case; 15] = [
 
 fn spoil(code: &mut [Instruction], index: Option<u16>) {
     if let Some(index) = index {
-        let at = index as usize;
+        let at = usize::from(index);
         if at < code.len() {
             code[at] = UNTOUCHED;
         }

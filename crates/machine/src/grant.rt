@@ -15,7 +15,8 @@ pub struct Ran {
     pub steps: u32,
 }
 
-// Runs the machine for at most `grant` steps; an instruction that stops counts none.
+// Runs the machine for at most `grant` steps; an instruction that stops counts none. Registers and cells come apart, since a
+// cabinet holds the ones and its caller the others.
 pub fn run<P: Port>(
     code: &[Instruction],
     registers: &mut [i32; 8],

@@ -4,7 +4,8 @@ ghost use Rattle.machine.specs.Op.{op_number};
 
 use crate::op::Op;
 
-// One instruction of the Tiny Machine: an op, three registers and a displacement.
+// One instruction of the Tiny Machine: an op, three registers and a displacement. The op is any byte, as it may stand in a
+// block: what has not the form is refused by number and place.
 #[derive(Clone, Copy, PartialEq, Eq, Debug)]
 pub struct Instruction {
     pub op: u8,
