@@ -52,7 +52,8 @@ static FOLLOWER: [Instruction; SLOTS] = [
 // The ends of the day's hours.
 const ENDS: usize = HOURS + 1;
 
-// What a day leaves behind: the replies, what was seen before each order and at the end, and the events.
+// What a day leaves behind: the replies, what was seen before each order and at the end, and the events. The calls fill the
+// first and the neighbours the second, so they are two arrays.
 #[derive(Clone, Copy)]
 struct Records {
     replies: [Reply; HOURS],
