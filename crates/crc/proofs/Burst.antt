@@ -4,7 +4,7 @@ use native.Mathlib.Nat.{zero-mod, mul-add-mod_self_right}
 use lib.Bits.{bit_xor, xor_self}
 use Rattle.std.specs.List.{AllByRecursion}
 use Rattle.std.proofs.lemmas.Nat.{pow-add, mod-pow-add}
-use Rattle.std.proofs.ByRecursion.{All-get_or}
+use Rattle.std.proofs.lemmas.List.Elements.{All-get_or}
 use Rattle.std.proofs.lemmas.List.{take-append-drop, take_at, get_or_at, get_or-append-add, drop_more, drop_all}
 use Rattle.std.proofs.lemmas.Bool.{and_parts, and_from, leb-true, le-leb, eqb-true, eq-eqb, cases_Bool}
 use Rattle.crc.specs.Crc.{shift, feed, bits_of, bits, crc, sealed, Bytes, Burst, BurstDetected}

@@ -1,5 +1,5 @@
 use Rattle.std.specs.Prelude.{◌≡◌, ℕ, ◌+◌, ◌-◌, ◌*◌, ◌/◌, ◌%◌, ◌^◌, ◌<◌, Bool, true, false, ◌&&◌, ◌≢◌, List, [], ◌∷◌, ◌++◌, length, take, ◌==◌, bit_xor, nat_le, slice_index}
-use Rattle.std.specs.List.{AllByRecursion}
+use Rattle.std.specs.Prelude.{All}
 
 -- x^16 + x^12 + x^5 + 1 without its highest term
 abbrev pub generator : ℕ
@@ -33,7 +33,7 @@ sealed text =
     && crc (take (length text - 2) text) == slice_index text (length text - 2) * 256 + slice_index text (length text - 2 + 1)
 
 abbrev pub Bytes : List ℕ → Type 0
-Bytes = AllByRecursion (λ b. b < 256)
+Bytes = All (λ b. b < 256)
 
 -- b is a, changed somewhere, but only within sixteen successive bits
 pub record Burst (a b : List ℕ) : Type 0 where

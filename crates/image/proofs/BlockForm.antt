@@ -1,9 +1,10 @@
 -- A block that was made for a part is right and holds that part; a right block is the one that is made for its part.
 use Rattle.std.proofs.Common.{◌≡◌, ℕ, zero, suc, ◌+◌, ◌-◌, ◌*◌, ◌/◌, ◌%◌, ◌^◌, ◌<◌, ◌≤◌, true, eqb, ltb, leb, List, [], ◌∷◌, ◌++◌, length, get_or, take, drop, None, sym, refl, ap, ◌∙◌, inl, inr, mul-zero, mul-suc, arith, length-drop, take-add}
-use Rattle.std.specs.List.{flat_map, AllByRecursion, list_all}
+use Rattle.std.specs.Prelude.{All}
+use Rattle.std.specs.List.{flat_map, list_all}
 use Rattle.std.proofs.lemmas.List.{append_assoc, take_at, drop_at, take_all, take-take, take-append-drop, length-take-le, drop-take, drop-drop}
 use Rattle.std.proofs.lemmas.Bool.{and_parts, and_from, eq-eqb, le-leb, lt-ltb, le-ltb, eqb-true, cases_lt, cond-true, cond-false}
-use Rattle.std.proofs.ByRecursion.{All-get_or, All-take, All-drop}
+use Rattle.std.proofs.lemmas.List.Elements.{All-head, All-tail, All-get_or, All-take, All-drop}
 use Rattle.crc.specs.Crc.{crc, sealed, Bytes}
 use Rattle.crc.proofs.Burst.{crc_fits, sealed_with}
 use Rattle.image.specs.Layout.{Layout}
@@ -34,7 +35,7 @@ are_zeros (x ∷ xs) e =
 
 module _ {A : Type 0} (l : Layout A) (s : Sound l) where
   -- instructions out of the bytes that they were joined to
-  pub instructions_joined : (part : List A) (rest : List ℕ) → AllByRecursion (λ a. l.decode (l.encode a) ≡ a) part
+  pub instructions_joined : (part : List A) (rest : List ℕ) → All (λ a. l.decode (l.encode a) ≡ a) part
       → instructions l (length part) (flat_map l.encode part ++ rest) ≡ part
   instructions_joined [] rest each = refl
   instructions_joined (a ∷ part) rest each =
@@ -44,9 +45,9 @@ module _ {A : Type 0} (l : Layout A) (s : Sound l) where
       ap (take l.width) whole ∙ take_at (l.encode a) bytes l.width (s.wide a) in
       let later : drop l.width ((l.encode a ++ flat_map l.encode part) ++ rest) ≡ bytes =
       ap (drop l.width) whole ∙ drop_at (l.encode a) bytes l.width (s.wide a) in
-      let head : l.decode (take l.width ((l.encode a ++ flat_map l.encode part) ++ rest)) ≡ a = ap l.decode first ∙ each.0 in
+      let head : l.decode (take l.width ((l.encode a ++ flat_map l.encode part) ++ rest)) ≡ a = ap l.decode first ∙ All-head (λ x. l.decode (l.encode x) ≡ x) a part each in
       let tail : instructions l (length part) (drop l.width ((l.encode a ++ flat_map l.encode part) ++ rest)) ≡ part =
-      ap (instructions l (length part)) later ∙ instructions_joined part rest each.1 in
+      ap (instructions l (length part)) later ∙ instructions_joined part rest (All-tail (λ x. l.decode (l.encode x) ≡ x) a part each) in
       cc
 
   -- and the bytes joined again from the instructions
@@ -102,7 +103,7 @@ module _ {A : Type 0} (l : Layout A) (s : Sound l) where
           (and_from _ _ (eq-eqb _ _ (two_whole blocks b-fits))
           (and_from _ _ (count_made index blocks (length part) some few full) refl)))
 
-      made_body : AllByRecursion (λ a. l.decode (l.encode a) ≡ a) part → list_all l.formed part ≡ true
+      made_body : All (λ a. l.decode (l.encode a) ≡ a) part → list_all l.formed part ≡ true
           → (body_right l bytes ≡ true) × (instructions l (get_or bytes 8 0) (drop 12 bytes) ≡ part)
       unfolding block covered
       made_body each formed =
@@ -121,7 +122,7 @@ module _ {A : Type 0} (l : Layout A) (s : Sound l) where
 
       pub made_right : number < 2 ^ 32 → index < 2 ^ 16 → blocks < 2 ^ 16 → 1 ≤ length part
           → (index + 1 < blocks → length part ≡ l.capacity)
-          → AllByRecursion (λ a. l.decode (l.encode a) ≡ a) part → list_all l.formed part ≡ true
+          → All (λ a. l.decode (l.encode a) ≡ a) part → list_all l.formed part ≡ true
           → (fault l number index blocks bytes ≡ None) × (instructions l (get_or bytes 8 0) (drop 12 bytes) ≡ part)
       made_right n-fits i-fits b-fits some full each formed =
           let body = made_body each formed in (

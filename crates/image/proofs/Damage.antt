@@ -1,7 +1,7 @@
 -- A change within sixteen successive bits of one block of a faultless image is found at that block.
 use Rattle.std.proofs.Common.{◌≡◌, ℕ, zero, suc, ◌+◌, ◌-◌, ◌*◌, ◌/◌, ◌<◌, ◌≤◌, false, cond, leb, List, [], length, get_or, take, drop, Some, None, Ok, Err, sym, refl, ap, ◌∙◌, add-one, arith}
 use Rattle.std.specs.Simd.{first_chunks}
-use Rattle.std.proofs.ByRecursion.{All-take, All-drop}
+use Rattle.std.proofs.lemmas.List.Elements.{All-take, All-drop}
 use Rattle.std.proofs.lemmas.List.{drop-take, take-take}
 use Rattle.refusal.specs.declared.Refusal.{Refusal}
 use Rattle.refusal.specs.declared.Reason.TheVariants.{BlockCheck, CodeStoreTooShort}

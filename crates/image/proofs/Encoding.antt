@@ -3,7 +3,7 @@ use borrow.Rule.Slice.PartMut.{put_mid}
 use Rattle.std.specs.List.{flat_map}
 use Rattle.std.proofs.lemmas.List.{append_assoc, drop_at, drop-drop, take_at, take_all, drop-replicate, replicate-append-replicate}
 use mir.Facts.{Fits-of_z}
-use Rattle.std.proofs.ByRecursion.{All-get_or}
+use Rattle.std.proofs.lemmas.List.Elements.{All-get_or}
 use Rattle.std.proofs.lemmas.Int.{to_z-of_z, of_z-to_z}
 use Rattle.machine.specs.declared.instruction.Instruction.{Instruction}
 use Rattle.crc.specs.Crc.{crc, Bytes}

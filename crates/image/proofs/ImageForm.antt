@@ -1,9 +1,10 @@
 -- The image of a code reads back as that code; a faultless image is the image of the code that it holds.
 use Rattle.std.proofs.Common.{◌≡◌, ℕ, zero, suc, ◌+◌, ◌-◌, ◌*◌, ◌/◌, ◌%◌, ◌^◌, ◌<◌, ◌≤◌, Bool, true, false, cond, not, ◌&&◌, eqb, leb, ◌⊎◌, List, [], ◌∷◌, ◌++◌, length, get_or, take, drop, IfOk, Some, None, Ok, Err, Option, Result, sym, refl, ap, ◌∙◌, subst, inl, inr, mul_comm, mul-zero, mul-suc, arith, length-append, length-drop, length-take}
-use Rattle.std.specs.List.{AllByRecursion, prefix_len, list_all}
+use Rattle.std.specs.Prelude.{All}
+use Rattle.std.specs.List.{prefix_len, list_all}
 use Rattle.std.specs.Simd.{first_chunks}
 use Rattle.std.proofs.lemmas.Nat.{div-mul-add, div-add-mod', mod_below, mul-le}
-use Rattle.std.proofs.ByRecursion.{All-take, All-drop}
+use Rattle.std.proofs.lemmas.List.Elements.{All-take, All-drop}
 use Rattle.std.proofs.lemmas.List.{take_at, drop_at, take_all, take-append-drop, length-take-le, get_or-take, nil_from_length}
 use Rattle.std.proofs.lemmas.List.Folds.{list_all-append}
 use Rattle.std.proofs.lemmas.Bool.{and_parts, and_from, eq-eqb, le-leb, leb-true, eqb-true, cases_lt, cases_Bool, cond-true, cond-false}
@@ -116,7 +117,7 @@ same_four bytes =
 module _ {A : Type 0} (l : Layout A) (s : Sound l) (number blocks : ℕ) where
   -- the blocks that are made for a code
   made : (n index : ℕ) (code : List A) → number < 2 ^ 32 → blocks < 2 ^ 16 → index + n ≡ blocks → Rows l.capacity n (length code)
-      → AllByRecursion (λ a. l.decode (l.encode a) ≡ a) code → list_all l.formed code ≡ true
+      → All (λ a. l.decode (l.encode a) ≡ a) code → list_all l.formed code ≡ true
       → (fault_in l number blocks index n (blocks_from l number blocks index n code) ≡ None)
       × (content_in l n (blocks_from l number blocks index n code) ≡ code)
       × (length (blocks_from l number blocks index n code) ≡ 512 * n)
@@ -245,7 +246,7 @@ module _ {A : Type 0} (l : Layout A) (s : Sound l) where
 
   -- what write makes of a code, read reads as that code
   pub reads_back : (number : ℕ) (code : List A) → number < 2 ^ 32 → 1 ≤ length code → length code ≤ l.limit * l.capacity
-      → AllByRecursion (λ a. l.decode (l.encode a) ≡ a) code → list_all l.formed code ≡ true
+      → All (λ a. l.decode (l.encode a) ≡ a) code → list_all l.formed code ≡ true
       → ReadsAs l (image l number code) code × (length (image l number code) ≡ 512 * blocks_for l (length code))
   unfolding image
   reads_back number code n-fits some few each formed =
@@ -281,11 +282,11 @@ module _ {A : Type 0} (l : Layout A) (s : Sound l) where
       let code = content_in l n bytes in
       let parts = or_else_none (length_fault l (length bytes)) (fault_in l number n 0 n bytes) clean in
       let size = length_parts (length bytes) parts.0 in
-      let All-right = right l s number n n 0 bytes (omega arith) (omega (arith, size.0)) each parts.1 in
-      let counted : blocks_for l (length code) ≡ n = rows_counted c n (length code) s.some size.1 All-right.2 in
+      let all_right = right l s number n n 0 bytes (omega arith) (omega (arith, size.0)) each parts.1 in
+      let counted : blocks_for l (length code) ≡ n = rows_counted c n (length code) s.some size.1 all_right.2 in
       let same : blocks_from l number n 0 n code ≡ blocks_from l number (blocks_for l (length code)) 0 (blocks_for l (length code)) code =
       ap (λ k. blocks_from l number k 0 k code) (sym counted) in
-      let rows = All-right.2 in
+      let rows = all_right.2 in
       let one = mul-le c 1 c n (omega arith) size.1 in
       let most = mul-le c n c l.limit (omega arith) size.2 in
       let swap = mul_comm c l.limit in
@@ -296,9 +297,9 @@ module _ {A : Type 0} (l : Layout A) (s : Sound l) where
         reply =
             accepts (blocks_for l (length code)) _ _ _ _ _ _
             (and_from (leb 1 (length code)) _ (le-leb 1 (length code) some) (le-leb (length code) (l.limit * c) few))
-            (eq-eqb _ _ (all_leading l.formed code All-right.1)) (le-leb _ _ room)
+            (eq-eqb _ _ (all_leading l.formed code all_right.1)) (le-leb _ _ room)
             ∙ ap Ok counted;
-        bytes = All-right.0 ∙ same;
+        bytes = all_right.0 ∙ same;
       }
 
   read_accepted : (f : Option Refusal) (r n : ℕ) (b : Bool) (x : Refusal) → Ok r ≡ unless f (cond b (Ok n) (Err x)) → (f ≡ None) × (r ≡ n)
@@ -307,7 +308,7 @@ module _ {A : Type 0} (l : Layout A) (s : Sound l) where
   read_accepted (Some f) r n b x e = absurd (cc)
 
   pub write_read : (number : ℕ) (code : List A) (before after : List ℕ) (r : Result ℕ Refusal) → number < 2 ^ 32
-      → IfOk r (λ _. AllByRecursion (λ a. l.decode (l.encode a) ≡ a) code)
+      → IfOk r (λ _. All (λ a. l.decode (l.encode a) ≡ a) code)
       → r ≡ write_reply l code (length before) → after ≡ store_after l number code before r
       → IfOk r (λ n. ReadsAs l (take (512 * n) after) code)
   write_read number code before after (Err e) n-fits each reply store = tt

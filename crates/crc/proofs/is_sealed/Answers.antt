@@ -1,7 +1,7 @@
 use Rattle.std.proofs.Common.{◌≡◌, ℕ, ◌+◌, ◌*◌, ◌<◌, ◌-◌, List, length, take, drop, ap, ◌∙◌, arith, rules}
 use Rattle.std.specs.Prelude.{slice_index, ◌==◌}
 use Rattle.std.proofs.lemmas.List.{get_or-drop}
-use Rattle.std.proofs.ByRecursion.{All-from_get_or}
+use Rattle.std.proofs.lemmas.List.Elements.{All-from_get_or}
 use Rattle.crc.specs.Crc.{crc, sealed}
 use Rattle.crc.proofs.Burst.{burst_detected}
 use Rattle.crc.proofs.is_sealed.Goals as goal

@@ -1,5 +1,5 @@
 use Rattle.std.proofs.Common.{◌<◌, length, ◌∙◌, arith}
-use Rattle.std.proofs.ByRecursion.{All-from_get_or}
+use Rattle.std.proofs.lemmas.List.Elements.{All-from_get_or}
 use Rattle.crc.specs.Crc.{Bytes}
 use Rattle.image.specs.Layout.{layout}
 use Rattle.image.proofs.Encoding.{sound}
