@@ -1,6 +1,5 @@
 -- What an hour leaves: a book that matches.
-use Rattle.std.proofs.Common.{◌≡◌, ℕ, ◌+◌, ◌-◌, ◌<◌, ◌≤◌, min, Bool, true, false, not, ◌&&◌, eqb, leb, List, [], ◌∷◌, ◌++◌, length, get_or, take, drop, set, ℤ, pos, Some, None, Ok, Err, Option, Result, sym, refl, ap, ◌∙◌, subst, append_assoc, arith, length-append, length-take, length-drop, length-set, Bor}
-use native.Mathlib.Nat.{sub-zero}
+use Rattle.std.proofs.Common.{◌≡◌, ℕ, ◌+◌, ◌<◌, ◌≤◌, min, Bool, true, false, not, ◌&&◌, eqb, leb, List, [], ◌∷◌, ◌++◌, length, get_or, take, drop, set, ℤ, pos, Some, None, Ok, Err, Option, Result, sym, refl, ap, ◌∙◌, subst, append_assoc, arith, length-append, length-take, length-drop, length-set, Bor}
 use Rattle.std.specs.Prelude.{if◌then◌else◌}
 use lib.ListN.{length-replicate}
 use Rattle.std.proofs.lemmas.List.{take_all, take_at, take-take, take_more, take_more_set, take-append-drop, length-take-le, drop-drop, drop-set-lt}
@@ -22,7 +21,7 @@ use Rattle.day.specs.declared.Cabinet.TheVariants.{Off, On}
 use Rattle.day.specs.declared.Command.{Command}
 use Rattle.day.specs.declared.Command.TheVariants.{Load, Run, Restart, Unload}
 use Rattle.day.specs.declared.Order.{Order}
-use Rattle.day.specs.Answers.{Reply, Setup, Answer, unfit, load_answer, run_reply, restart_reply, answer_by, answer, slots_of, cells_of, front, whole, answer_order}
+use Rattle.day.specs.Answers.{Reply, Setup, Answer, unfit, load_answer, run_reply, restart_reply, answer_by, slots_of, cells_of, front, whole, answer_order}
 use Rattle.day.specs.Book.{Book, opened, continued, Entry, entry, fed, Reached}
 use Rattle.day.specs.Book as book
 use Rattle.day.specs.Day.{Holds, Matches, Told, with_port, Hour, Day, morning, later, Worked}
@@ -256,20 +255,6 @@ longer {w = w} {meaning} {touched} {o₀} {o' = o'} {p₀} {p' = p'} {s₀} {s' 
 
 pub past : {A : Type 0} (xs ys : List A) (i : ℕ) (y : A) → drop i xs ≡ drop i ys → drop (i + 1) (set xs i y) ≡ drop (i + 1) ys
 past xs ys i y e = drop-set-lt (i + 1) xs i y (omega arith) ∙ sym (drop-drop 1 i xs) ∙ ap (drop 1) e ∙ drop-drop 1 i ys
-
--- what is left in the fronts is left in the stores
-pub order_is : {M : Type 0} (w : Ways M) (o : Order) (s : Setup M) (i j : ℕ) (a : Answer M) → i ≡ slots_of o s → j ≡ cells_of o s
-    → a ≡ answer w o.command (record { cabinet = s.cabinet; code = take (i - 0) s.code; memory = take (j - 0) s.memory; port = s.port })
-    → record { reply = a.reply; setup = record { cabinet = a.setup.cabinet; code = a.setup.code ++ drop (i - 0) s.code; memory = a.setup.memory ++ drop (j - 0) s.memory; port = a.setup.port } }
-    ≡ answer_order w o s
-order_is {M} w o s i j a p q e =
-    let x : i - 0 ≡ slots_of o s = sub-zero i ∙ p in
-    let y : j - 0 ≡ cells_of o s = sub-zero j ∙ q in
-    let f : ℕ → ℕ → Setup M = λ u v. record { cabinet = s.cabinet; code = take u s.code; memory = take v s.memory; port = s.port } in
-    let g : ℕ → ℕ → Answer M → Answer M = λ u v z. record { reply = z.reply; setup = record { cabinet = z.setup.cabinet; code = z.setup.code ++ drop u s.code; memory = z.setup.memory ++ drop v s.memory; port = z.setup.port } } in
-    ap (g (i - 0) (j - 0)) e
-    ∙ ap (λ u. g u (j - 0) (answer w o.command (f u (j - 0)))) x
-    ∙ ap (λ v. g (slots_of o s) v (answer w o.command (f (slots_of o s) v))) y
 
 -- a day through all the orders for which there is room
 pub worked : {M O P : Type 0} {w : Ways M} {meaning : P → M} {touched : O → P → O → P → Type 0} {o₀ o : O} {p₀ p : P} {s₀ s : Setup M}
