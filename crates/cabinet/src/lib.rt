@@ -1,11 +1,12 @@
 #![tactic(auto)]
 
-ghost use Rattle.std.specs.Prelude.{◌≡◌, ◌<◌, length, if◌then◌else◌, Ok, Err};
+ghost use Rattle.std.specs.Prelude.{◌≡◌, ◌<◌, length, if◌then◌else◌, IfOk, Ok, Err};
 ghost use Rattle.refusal.specs.Faults.{refusal};
 ghost use Rattle.refusal.specs.declared.Reason.TheVariants.{StoreMismatch};
 ghost use Rattle.image.specs.Layout.{layout};
 ghost use Rattle.image.specs.Reading.{code_after};
 ghost use Rattle.machine.specs.Machine.{start};
+ghost use Rattle.cabinet.specs.Kept.{Fit};
 ghost use Rattle.cabinet.specs.Calls.{load_reply, load_outcome, mismatched, run_outcome, restart_outcome};
 
 use image::{block_count, read};
@@ -43,7 +44,7 @@ impl Model for Loaded {
     ghost view = { λ l. record { registers = l.registers; count = l.count; slots = l.slots; cells = l.cells } };
 
     // The code store has a place for each instruction, and the memory a right size.
-    ghost invariant = { λ l. (l.count ≤ l.slots) × (l.cells ≤ 16384) };
+    ghost invariant = { λ l. (l.count ≤ l.slots) × ((16 ≤ l.cells) × (l.cells ≤ 16384)) };
 }
 
 // A refused load gives the cabinet back.
@@ -77,6 +78,7 @@ fn clear(memory: &mut [i32])
 {
     memory.fill(0);
     if memory.len() > 0 {
+        // proved to fit: `try_from` would add a refusal that never comes
         memory[0] = (memory.len() - 1) as i32;
     }
 }
@@ -99,7 +101,8 @@ impl Empty {
         code: &mut [Instruction],
         memory: &mut [i32],
     ) -> Result<Started, Refused>
-        ensures { record { result = result; code = code.new; memory = memory.new }
+        ensures fit { IfOk result (λ s. Fit s.cabinet) }
+        ensures outcome { record { result = result; code = code.new; memory = memory.new }
             ≡ load_outcome self image.now code.old memory.old }
     {
         let cells = memory.len();
@@ -126,7 +129,8 @@ impl Empty {
 impl Loaded {
     // The stores must be of the lengths that they had at the load.
     fn check_stores(&self, code: &[Instruction], memory: &[i32]) -> Result<(), Refusal>
-        ensures { result ≡ (if mismatched self.now code.now memory.now then Err (refusal StoreMismatch 0) else Ok tt) }
+        ensures reply { result ≡ (if mismatched self.now code.now memory.now then Err (refusal StoreMismatch 0) else Ok tt) }
+        ensures fit { Fit self.now }
     {
         if code.len() != self.slots || memory.len() != self.cells {
             return Err(Reason::StoreMismatch.at(0));
@@ -142,7 +146,8 @@ impl Loaded {
         port: &mut P,
         grant: u32,
     ) -> Result<Ran, Refusal>
-        ensures { record { result = result; cabinet = self.new; memory = memory.new; port = P.Port.meaning port.new }
+        ensures fit { Fit self.old × Fit self.new }
+        ensures outcome { record { result = result; cabinet = self.new; memory = memory.new; port = P.Port.meaning port.new }
             ≡ run_outcome P.Port.ways self.old code.now memory.old (P.Port.meaning port.old) grant }
     {
         self.check_stores(code, memory)?;
@@ -160,7 +165,8 @@ impl Loaded {
 
     // Back to the start of the code.
     pub fn restart(&mut self, code: &[Instruction], memory: &mut [i32]) -> Result<(), Refusal>
-        ensures { record { result = result; cabinet = self.new; memory = memory.new }
+        ensures fit { Fit self.old × Fit self.new }
+        ensures outcome { record { result = result; cabinet = self.new; memory = memory.new }
             ≡ restart_outcome self.old code.now memory.old }
     {
         self.check_stores(code, memory)?;

@@ -15,13 +15,12 @@ const LOG: usize = 1000;
 pub enum Command {
     Deliver,
     Show(String),
-    Exec(Plan),
+    Exec(String, Plan),
 }
 
-// An image to run: the cells of its memory, a grant for each run, the readings, and the places of its log.
+// How to run an image: the cells of its memory, a grant for each run, the readings, and the places of its log.
 #[derive(Drop)]
 pub struct Plan {
-    pub path: String,
     pub cells: usize,
     pub grants: Vec<u32>,
     pub readings: Vec<i32>,
@@ -100,23 +99,19 @@ impl Options {
         Ok(options)
     }
 
-    fn into_plan(self, heap: Global, path: String) -> Result<Plan, Fault> {
+    fn into_plan(self, heap: Global) -> Result<Plan, Fault> {
         let Options {
             memory,
             grants,
             readings,
             log,
         } = self;
-        match (memory, grants) {
-            (Some(cells), Some(grants)) => Ok(Plan {
-                path,
-                cells,
-                grants,
-                readings: readings.unwrap_or(Vec::new(heap)),
-                log: log.unwrap_or(LOG),
-            }),
-            _ => Err(Fault::Usage),
-        }
+        Ok(Plan {
+            cells: memory.ok_or(Fault::Usage)?,
+            grants: grants.ok_or(Fault::Usage)?,
+            readings: readings.unwrap_or(Vec::new(heap)),
+            log: log.unwrap_or(LOG),
+        })
     }
 }
 
@@ -127,15 +122,13 @@ pub fn parse_command(rt: &HostRuntime) -> Result<Command, Fault> {
     let Some(word) = words.next() else {
         return Ok(Command::Deliver);
     };
-    let Some(path) = words.next() else {
-        return Err(Fault::Usage);
-    };
+    let path = words.next().ok_or(Fault::Usage)?;
     let rest: Vec<String> = words.collect(heap)?;
     match word.as_str() {
         "show" if rest.is_empty() => Ok(Command::Show(path)),
         "exec" => {
             let options = Options::parse(heap, rest.as_slice())?;
-            Ok(Command::Exec(options.into_plan(heap, path)?))
+            Ok(Command::Exec(path, options.into_plan(heap)?))
         }
         _ => Err(Fault::Usage),
     }

@@ -7,16 +7,15 @@ use crate::arguments::Plan;
 use crate::ending::end;
 use crate::error::Fault;
 use crate::notes::Notes;
-use crate::reading::BLANK;
+use crate::reading::{code_store, read_file};
 use crate::text::ReplyLine;
 use crate::trace::{Event, Trace};
 use cabinet::Empty;
 use day::{Command, Denial, Done, Order, Others, Reply};
-use image::{CAPACITY, block_count};
 use machine::instruction::Instruction;
 use port::{Port, Record};
 use std::alloc::{AllocError, Global};
-use std::{fs, io};
+use std::io;
 
 // Nobody else is at a record port; how many events there were is noted before each order.
 #[derive(Drop)]
@@ -32,7 +31,7 @@ impl<'t, P> Others<Trace<'t, P>> for Nobody<'_> {
     }
 }
 
-// What is handed in for a day, and what it leaves there.
+// What is handed in for a day, and what it leaves there: the calls fill the replies, and whoever else is at the port the marks.
 #[derive(Drop)]
 struct Stores {
     code: Vec<Instruction>,
@@ -81,21 +80,11 @@ impl Stores {
     }
 }
 
-// Room for the code of an image, if it can be one.
-fn code_store(heap: Global, image: &[u8]) -> Result<Vec<Instruction>, AllocError> {
-    let blocks = block_count(image).unwrap_or(0);
-    vec![in heap; BLANK; CAPACITY * blocks]
-}
-
 // An order over the fronts of the stores that another has.
-pub fn like<'a>(order: Order<'a>, command: Command<'a>) -> Order<'a>
+pub(crate) fn like<'a>(order: Order<'a>, command: Command<'a>) -> Order<'a>
     ensures { result ≡ like_order order.entry command.entry }
 {
-    Order {
-        command,
-        slots: order.slots,
-        cells: order.cells,
-    }
+    Order { command, ..order }
 }
 
 // A run for each grant, over the fronts of a load.
@@ -116,6 +105,7 @@ fn load_and_runs<'a>(
 ) -> Result<Vec<Order<'a>>, AllocError>
     ensures { IfOk result (λ v. v.items ≡ load_and_runs load.entry grants.now) }
 {
+    // of `once` and `chain` the check does not follow the items
     let mut orders = runs(heap, load, grants)?;
     orders.insert(0, load)?;
     Ok(orders)
@@ -160,12 +150,7 @@ fn exec_image(rt: &HostRuntime, plan: &Plan, image: &[u8]) -> Result<(), Fault> 
 }
 
 // Loads the image in a file, and runs it over a record port, once for each grant.
-pub fn exec_file(rt: &HostRuntime, plan: Plan) -> Result<(), Fault> {
-    match fs::read(rt, plan.path.as_str()) {
-        Ok(image) => exec_image(rt, &plan, image.as_slice()),
-        Err(error) => {
-            let Plan { path, .. } = plan;
-            Err(Fault::Unreadable(path, error))
-        }
-    }
+pub fn exec_file(rt: &HostRuntime, path: String, plan: &Plan) -> Result<(), Fault> {
+    let image = read_file(rt, path)?;
+    exec_image(rt, plan, image.as_slice())
 }

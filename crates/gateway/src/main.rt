@@ -32,7 +32,7 @@ fn run(rt: &HostRuntime) -> Result<(), Fault> {
             serve_limit(rt, &image)
         }
         Command::Show(path) => show_file(rt, path),
-        Command::Exec(plan) => exec_file(rt, plan),
+        Command::Exec(path, plan) => exec_file(rt, path, &plan),
     }
 }
 

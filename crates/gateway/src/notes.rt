@@ -2,7 +2,8 @@ ghost use Rattle.std.specs.Prelude.{◌≡◌, ◌-◌, length};
 ghost use Rattle.gateway.specs.Noting.{noted, blank, and_then};
 
 // A list in places that are handed in, since a take or a put that notes itself cannot fail for want of memory.
-// Items that find no place are counted, and not held.
+// Items that find no place are counted, and not held. Clauses read notes by `noted`: a model would forget the places behind the
+// items, of which those who touch a port promise something.
 #[derive(Drop)]
 pub struct Notes<'n, T> {
     places: &'n mut [T],

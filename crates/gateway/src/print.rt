@@ -28,23 +28,24 @@ fn print_instruction(
     println!(rt; "  {address:>5}: {line}")
 }
 
-pub fn print_code(rt: &HostRuntime, code: &[Instruction]) -> io::Result<()> {
-    for (address, instruction) in code.iter().enumerate() {
-        print_instruction(rt, address, instruction)?;
+// Instructions from an address on.
+fn print_part(rt: &HostRuntime, first: usize, part: &[Instruction]) -> io::Result<()> {
+    for (k, instruction) in part.iter().enumerate() {
+        print_instruction(rt, first.saturating_add(k), instruction)?;
     }
     Ok(())
 }
 
+pub fn print_code(rt: &HostRuntime, code: &[Instruction]) -> io::Result<()> {
+    print_part(rt, 0, code)
+}
+
 // The code of an image, with the head of each block before its instructions.
 pub fn print_blocks(rt: &HostRuntime, image: &[u8], code: &[Instruction]) -> io::Result<()> {
-    let mut blocks = image.chunks_exact(BLOCK).enumerate();
-    for (address, instruction) in code.iter().enumerate() {
-        if address % CAPACITY == 0 {
-            if let Some((place, block)) = blocks.next() {
-                print_head(rt, block, place)?;
-            }
-        }
-        print_instruction(rt, address, instruction)?;
+    let blocks = image.chunks_exact(BLOCK).zip(code.chunks(CAPACITY));
+    for (place, (block, part)) in blocks.enumerate() {
+        print_head(rt, block, place)?;
+        print_part(rt, place.saturating_mul(CAPACITY), part)?;
     }
     Ok(())
 }

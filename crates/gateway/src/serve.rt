@@ -32,7 +32,7 @@ const CELLS: usize = 16;
 // Places for the events of the day; it has six.
 const EVENTS: usize = 16;
 
-// Code that puts each reading on, and goes back to the start.
+// Code that puts each reading on, and goes back to the start. A `static` can call no function, so the ops are cast.
 static FOLLOWER: [Instruction; SLOTS] = [
     Instruction {
         op: Op::In as u8,

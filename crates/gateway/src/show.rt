@@ -1,16 +1,13 @@
 use crate::error::Fault;
 use crate::print::{print_blocks, print_heads};
-use crate::reading::read_code;
+use crate::reading::{read_code, read_file};
 use crate::text::Advice;
 use image::{BLOCK, header_at};
 use machine::instruction::Instruction;
 use refusal::{Reason, Refusal};
-use std::fs;
 
 fn print_image(rt: &HostRuntime, image: &[u8], code: &[Instruction]) -> Result<(), Fault> {
-    let Some(first) = header_at(image, 0) else {
-        return Err(Fault::Refused(Reason::ImageLength.at(0)));
-    };
+    let first = header_at(image, 0).ok_or(Reason::ImageLength.at(0))?;
     let number = first.number;
     let blocks = image.len() / BLOCK;
     let count = code.len();
@@ -39,8 +36,6 @@ fn print_file(rt: &HostRuntime, file: &[u8]) -> Result<(), Fault> {
 }
 
 pub fn show_file(rt: &HostRuntime, path: String) -> Result<(), Fault> {
-    match fs::read(rt, path.as_str()) {
-        Ok(file) => print_file(rt, file.as_slice()),
-        Err(error) => Err(Fault::Unreadable(path, error)),
-    }
+    let file = read_file(rt, path)?;
+    print_file(rt, file.as_slice())
 }

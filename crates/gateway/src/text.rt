@@ -8,7 +8,8 @@ use machine::{Op, Ran, Stop};
 use refusal::{Reason, Refusal};
 use std::fmt;
 
-// An instruction in the notation of the assembler.
+// An instruction in the notation of the assembler. What the program prints of a library's value in a line of its own is a
+// wrapper with `Display`, here and below.
 #[derive(Clone, Copy)]
 pub struct Assembly(pub Instruction);
 
@@ -17,7 +18,7 @@ impl fmt::Display for Assembly {
         let Instruction { op, r, s, t, d } = self.0;
         match Op::try_from(op) {
             // the ops up to DIV take three registers, the others a register and an address
-            Ok(op) if op.number() <= Op::Div.number() => write!(f, "{op:<4} {r},{s},{t}"),
+            Ok(op) if op <= Op::Div => write!(f, "{op:<4} {r},{s},{t}"),
             Ok(op) => write!(f, "{op:<4} {r},{d}({s})"),
             Err(_) => write!(f, "?    {r},{d}({s})"),
         }

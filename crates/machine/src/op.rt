@@ -6,7 +6,7 @@ use std::error::Error;
 use std::fmt;
 
 // What an instruction does, each op at its number.
-#[derive(Clone, Copy, PartialEq, Eq, Debug)]
+#[derive(Clone, Copy, PartialEq, Eq, PartialOrd, Ord, Debug)]
 pub enum Op {
     Halt = 0,
     In,

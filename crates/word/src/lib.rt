@@ -26,7 +26,7 @@ fn divided(a: i32, b: i32) -> Option<i32>
 {
     match b {
         0 => None,
-        // the smallest number gives itself
+        // the smallest number gives itself; `wrapping_div` says so in bits, and its proof stayed open
         -1 => Some(sub(0, a)),
         _ => Some(a / b),
     }
