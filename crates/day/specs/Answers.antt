@@ -27,6 +27,9 @@ pub record Setup (M : Type 0) : Type 0 where
   pub memory : List ℤ
   pub port : M
 
+abbrev pub setup_of : {M : Type 0} → Cabinet → List Instruction → List ℤ → M → Setup M
+setup_of k code memory m = record { cabinet = k; code = code; memory = memory; port = m }
+
 -- what a command is answered, and what it leaves
 pub record Answer (M : Type 0) : Type 0 where
   pub reply : Reply

@@ -1,7 +1,7 @@
 #![tactic(auto)]
 
 ghost use Rattle.std.specs.Prelude.{◌≡◌, min};
-ghost use Rattle.day.specs.Answers.{answer, answer_order};
+ghost use Rattle.day.specs.Answers.{setup_of, answer, answer_order};
 ghost use Rattle.day.specs.Day.{Worked};
 ghost use Rattle.day.specs.declared.Cabinet.TheVariants.{Off};
 
@@ -70,7 +70,12 @@ fn obey<P: Port>(
     memory: &mut [i32],
     port: &mut P,
 ) -> Answered
-    ensures { record { reply = result.reply; setup = record { cabinet = result.cabinet; code = code.new; memory = memory.new; port = P.Port.meaning port.new } } ≡ answer P.Port.ways command.entry (record { cabinet = cabinet; code = code.old; memory = memory.old; port = P.Port.meaning port.old }) }
+    ensures { record {
+      reply = result.reply;
+      setup = setup_of result.cabinet code.new memory.new (P.Port.meaning port.new);
+    }
+        ≡ answer P.Port.ways command.entry
+        (setup_of cabinet code.old memory.old (P.Port.meaning port.old)) }
 {
     match (cabinet, command) {
         (Cabinet::Off(empty), Command::Load(image)) => match empty.load(image, code, memory) {
@@ -115,7 +120,12 @@ fn obey_order<P: Port>(
     memory: &mut [i32],
     port: &mut P,
 ) -> Answered
-    ensures { record { reply = result.reply; setup = record { cabinet = result.cabinet; code = code.new; memory = memory.new; port = P.Port.meaning port.new } } ≡ answer_order P.Port.ways order.now (record { cabinet = cabinet; code = code.old; memory = memory.old; port = P.Port.meaning port.old }) }
+    ensures { record {
+      reply = result.reply;
+      setup = setup_of result.cabinet code.new memory.new (P.Port.meaning port.new);
+    }
+        ≡ answer_order P.Port.ways order.now
+        (setup_of cabinet code.old memory.old (P.Port.meaning port.old)) }
 {
     let slots = order.slots.min(code.len());
     let cells = order.cells.min(memory.len());
@@ -135,7 +145,10 @@ pub fn work<P: Port, O: Others<P>>(
     others: &mut O,
     replies: &mut [Reply],
 ) -> Cabinet
-    ensures { Worked P.Port.ways P.Port.meaning O.Others.touched others.old port.old (record { cabinet = Off empty; code = code.old; memory = memory.old; port = P.Port.meaning port.old }) orders.now replies.old replies.new others.new port.new (record { cabinet = result; code = code.new; memory = memory.new; port = P.Port.meaning port.new }) }
+    ensures { Worked P.Port.ways P.Port.meaning O.Others.touched
+        others.old port.old (setup_of (Off empty) code.old memory.old (P.Port.meaning port.old))
+        orders.now replies.old replies.new
+        others.new port.new (setup_of result code.new memory.new (P.Port.meaning port.new)) }
 {
     let mut cabinet = Cabinet::Off(empty);
     // After `zip` with `iter_mut` nothing is known of the replies, so they go by index.
