@@ -63,6 +63,7 @@ struct Answered {
     reply: Reply,
 }
 
+// A struct of the stores and the port was tried: the checker does not yet follow fields behind it that are lent to one call.
 fn obey<P: Port>(
     cabinet: Cabinet,
     command: Command,
