@@ -1,7 +1,7 @@
 use crate::samples::*;
 use cabinet::Empty;
 use day::{Cabinet, Command, Denial, Done, Order, Others, Reply};
-use fixtures::{Row, UNTOUCHED};
+use fixtures::{Row, UNTOUCHED, card};
 use machine::Stop;
 use port::Live;
 use std::process::Abort;
@@ -10,13 +10,22 @@ use std::test::Fail;
 // Takes each reading on to the port.
 static ROWS: [Row; 3] = [Row(1, 0, 0, 0, 0), Row(2, 0, 0, 0, 0), Row(10, 7, 0, 0, 0)];
 
-// A reply with the number and the place of a refusal, if it is refused and not unfit.
-type Told = Result<Done, Option<(u8, usize)>>;
+// A denial with the number on the card and the place of a refusal.
+#[derive(Clone, Copy, PartialEq, Eq, Debug)]
+enum Denied {
+    Unfit,
+    Refused(u8, usize),
+}
+
+type Told = Result<Done, Denied>;
 
 fn told_by(reply: Reply) -> Told {
     reply.map_err(|denial| match denial {
-        Denial::Unfit => None,
-        Denial::Refused(refusal) => Some((refusal.reason.number(), refusal.place)),
+        Denial::Unfit => Denied::Unfit,
+        Denial::Refused(refusal) => {
+            let (number, place) = card(refusal);
+            Denied::Refused(number, place)
+        }
     })
 }
 
@@ -66,20 +75,20 @@ fn end(cabinet: Cabinet) -> bool {
     }
 }
 
-// What a day leaves.
+// What a day with room for N replies leaves.
 #[derive(Clone, Copy)]
-struct Evening {
-    replies: [Reply; 16],
+struct Evening<const N: usize> {
+    replies: [Reply; N],
     street: Street,
     is_loaded: bool,
 }
 
-fn work(orders: &[Order]) -> Evening {
+fn work<const N: usize>(orders: &[Order]) -> Evening<N> {
     let mut code = [UNTOUCHED; 12];
     let mut memory = [MARK; 24];
     let mut port = Live::new();
     let mut street = QUIET;
-    let mut replies = [Err(Denial::Unfit); 16];
+    let mut replies = [Err(Denial::Unfit); N];
     let cabinet = day::work(
         Empty::new(),
         orders,
@@ -108,7 +117,7 @@ fn check_replies(rt: &impl Abort, replies: &[Reply], expected: &[Told]) {
 fn unfit_commands_are_told(rt: HostRuntime) -> Result<(), Fail> {
     let image = image_of(&rt, &ROWS)?;
     let load = order(Command::Load(image.as_slice()));
-    let evening = work(&[
+    let evening = work::<16>(&[
         order(Command::Run(1)),
         order(Command::Restart),
         order(Command::Unload),
@@ -121,13 +130,13 @@ fn unfit_commands_are_told(rt: HostRuntime) -> Result<(), Fail> {
         &rt,
         &evening.replies,
         &[
-            Err(None),
-            Err(None),
-            Err(None),
+            Err(Denied::Unfit),
+            Err(Denied::Unfit),
+            Err(Denied::Unfit),
             Ok(Done::Loaded(3)),
-            Err(None),
+            Err(Denied::Unfit),
             Ok(Done::Unloaded),
-            Err(None),
+            Err(Denied::Unfit),
         ],
     );
     assert!(rt; !evening.is_loaded);
@@ -140,7 +149,7 @@ fn refused_orders_change_nothing(rt: HostRuntime) -> Result<(), Fail> {
     let image = image_of(&rt, &ROWS)?;
     let load = order(Command::Load(image.as_slice()));
     let run = order(Command::Run(9));
-    let evening = work(&[
+    let evening = work::<16>(&[
         Order { cells: 15, ..load },
         Order { slots: 2, ..load },
         load,
@@ -159,14 +168,14 @@ fn refused_orders_change_nothing(rt: HostRuntime) -> Result<(), Fail> {
         &rt,
         &evening.replies,
         &[
-            Err(Some((25, 0))),
-            Err(Some((18, 0))),
+            Err(Denied::Refused(25, 0)),
+            Err(Denied::Refused(18, 0)),
             Ok(Done::Loaded(3)),
             ran(Stop::Spent, 1),
-            Err(Some((26, 0))),
-            Err(Some((27, 0))),
-            Err(Some((27, 0))),
-            Err(Some((27, 0))),
+            Err(Denied::Refused(26, 0)),
+            Err(Denied::Refused(27, 0)),
+            Err(Denied::Refused(27, 0)),
+            Err(Denied::Refused(27, 0)),
             ran(Stop::Blocked(5), 3),
         ],
     );
@@ -179,7 +188,7 @@ fn refused_orders_change_nothing(rt: HostRuntime) -> Result<(), Fail> {
 fn a_day_goes_on_between_meter_and_charger(rt: HostRuntime) -> Result<(), Fail> {
     let image = image_of(&rt, &ROWS)?;
     let run = order(Command::Run(9));
-    let evening = work(&[
+    let evening = work::<16>(&[
         order(Command::Load(image.as_slice())),
         run,
         run,
@@ -216,22 +225,13 @@ fn a_day_ends_with_the_room_for_replies(rt: HostRuntime) -> Result<(), Fail> {
         order(Command::Run(1)),
         order(Command::Unload),
     ];
-    let mut code = [UNTOUCHED; 12];
-    let mut memory = [MARK; 24];
-    let mut port = Live::new();
-    let mut street = QUIET;
-    let mut replies = [Err(Denial::Unfit); 2];
-    let cabinet = day::work(
-        Empty::new(),
-        &orders,
-        &mut code,
-        &mut memory,
-        &mut port,
-        &mut street,
-        &mut replies,
+    let evening = work::<2>(&orders);
+    assert!(rt; evening.is_loaded);
+    assert_eq!(rt; evening.street.visits, 2);
+    check_replies(
+        &rt,
+        &evening.replies,
+        &[Ok(Done::Loaded(3)), ran(Stop::Spent, 1)],
     );
-    assert!(rt; end(cabinet));
-    assert_eq!(rt; street.visits, 2);
-    check_replies(&rt, &replies, &[Ok(Done::Loaded(3)), ran(Stop::Spent, 1)]);
     Ok(())
 }

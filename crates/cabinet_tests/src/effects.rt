@@ -11,10 +11,11 @@ const STEP: Ran = Ran {
     steps: 1,
 };
 
-// An instruction, and a register with what it then holds; register 7 is 2 unless it is that.
+// An instruction, and a register or a cell with what it then holds.
 #[derive(Clone, Copy)]
 struct Effect(Row, u8, i32);
 
+// With a register; register 7 is 2 unless it is that.
 static EFFECTS: [Effect; 64] = [
     // ADD
     Effect(Row(3, 0, 1, 2, 0), 0, 7),
@@ -95,17 +96,14 @@ static EFFECTS: [Effect; 64] = [
     Effect(Row(16, 0, 7, 0, 0), 7, 2),
 ];
 
-// A store, and a cell with what it then holds.
-#[derive(Clone, Copy)]
-struct Stored(Row, u8, i32);
-
-static STORED: [Stored; 6] = [
-    Stored(Row(8, 1, 0, 0, 0), 0, 10),
-    Stored(Row(8, 2, 0, 0, 15), 15, -3),
-    Stored(Row(8, 5, 1, 0, 3), 13, i32::MIN),
-    Stored(Row(8, 4, 1, 0, -10), 0, i32::MAX),
-    Stored(Row(8, 0, 7, 0, 0), 2, 0),
-    Stored(Row(8, 7, 6, 0, 1), 0, 2),
+// With a cell.
+static STORED: [Effect; 6] = [
+    Effect(Row(8, 1, 0, 0, 0), 0, 10),
+    Effect(Row(8, 2, 0, 0, 15), 15, -3),
+    Effect(Row(8, 5, 1, 0, 3), 13, i32::MIN),
+    Effect(Row(8, 4, 1, 0, -10), 0, i32::MAX),
+    Effect(Row(8, 0, 7, 0, 0), 2, 0),
+    Effect(Row(8, 7, 6, 0, 1), 0, 2),
 ];
 
 fn after(register: u8, value: i32) -> Result<[i32; 8], Fail> {
@@ -118,18 +116,18 @@ fn after(register: u8, value: i32) -> Result<[i32; 8], Fail> {
     Ok(after)
 }
 
-// The registers and the cells after a step of an instruction at place 1.
-fn stepped(rt: &impl Abort, row: Row, port: &mut Live) -> ([i32; 8], [i32; 16]) {
+// What a step of an instruction at place 1 tells, and the registers and the cells after it.
+fn stepped(row: Row, port: &mut Live) -> (Ran, [i32; 8], [i32; 16]) {
     let code = [Instruction::from(row); 4];
     let mut registers = BEFORE;
     let mut cells = NUMBERED;
     let ran = machine::run(&code, &mut registers, &mut cells, port, 1);
-    assert_eq!(rt; ran, STEP);
-    (registers, cells)
+    (ran, registers, cells)
 }
 
 fn check_effect(rt: &impl Abort, effect: &Effect) -> Result<(), Fail> {
-    let (registers, cells) = stepped(rt, effect.0, &mut Live::new());
+    let (ran, registers, cells) = stepped(effect.0, &mut Live::new());
+    assert_eq!(rt; ran, STEP);
     assert_eq!(rt; registers, after(effect.1, effect.2)?);
     assert_eq!(rt; cells, NUMBERED);
     Ok(())
@@ -143,8 +141,9 @@ fn instructions_have_their_effects(rt: HostRuntime) -> Result<(), Fail> {
     Ok(())
 }
 
-fn check_stored(rt: &impl Abort, stored: &Stored) -> Result<(), Fail> {
-    let (registers, cells) = stepped(rt, stored.0, &mut Live::new());
+fn check_stored(rt: &impl Abort, stored: &Effect) -> Result<(), Fail> {
+    let (ran, registers, cells) = stepped(stored.0, &mut Live::new());
+    assert_eq!(rt; ran, STEP);
     assert_eq!(rt; registers, after(7, 2)?);
     let mut expected = NUMBERED;
     assert!(rt; stored.1 < 16);
@@ -165,7 +164,8 @@ fn stores_change_one_cell(rt: HostRuntime) -> Result<(), Fail> {
 fn check_taking(rt: &impl Abort, register: u8) -> Result<(), Fail> {
     let mut port = Live::new();
     assert!(rt; port.give(42));
-    let (registers, cells) = stepped(rt, Row(1, register, 0, 0, 0), &mut port);
+    let (ran, registers, cells) = stepped(Row(1, register, 0, 0, 0), &mut port);
+    assert_eq!(rt; ran, STEP);
     assert_eq!(rt; registers, after(register, 42)?);
     assert_eq!(rt; cells, NUMBERED);
     assert!(rt; port.give(43));
@@ -181,7 +181,8 @@ fn a_reading_goes_into_a_register(rt: HostRuntime) -> Result<(), Fail> {
 
 fn check_putting(rt: &impl Abort, register: u8, value: i32) -> Result<(), Fail> {
     let mut port = Live::new();
-    let (registers, cells) = stepped(rt, Row(2, register, 0, 0, 0), &mut port);
+    let (ran, registers, cells) = stepped(Row(2, register, 0, 0, 0), &mut port);
+    assert_eq!(rt; ran, STEP);
     assert_eq!(rt; registers, after(7, 2)?);
     assert_eq!(rt; cells, NUMBERED);
     assert_eq!(rt; port.fetch(), Some(value));

@@ -47,10 +47,6 @@ fn run_all(code: &[Instruction], grants: &[u32]) -> Left {
     }
 }
 
-fn told(stop: Stop, steps: u32) -> Ran {
-    Ran { stop, steps }
-}
-
 #[test]
 fn the_grant_is_spent_exactly(rt: HostRuntime) -> Result<(), Fail> {
     let code = code_of(rt.alloc(), &COUNTDOWN)?;
@@ -94,21 +90,18 @@ fn a_circle_spends_every_grant(rt: HostRuntime) -> Result<(), Fail> {
     Ok(())
 }
 
-// The second instruction, and why it stops.
-#[derive(Clone, Copy)]
-struct Second(Row, Stop);
-
-static SECOND: [Second; 6] = [
-    Second(Row(0, 6, 0, 0, 0), Stop::Halt(6)),
-    Second(Row(1, 0, 0, 0, 0), Stop::Waiting),
-    Second(Row(6, 0, 0, 1, 0), Stop::Divisor),
-    Second(Row(8, 0, 0, 0, 9), Stop::Address),
-    Second(Row(7, 0, 1, 0, -1), Stop::Address),
-    Second(Row(17, 0, 0, 0, 0), Stop::Place),
+// The second of two instructions.
+static SECOND: [Halting; 6] = [
+    Halting(Row(0, 6, 0, 0, 0), Stop::Halt(6)),
+    Halting(Row(1, 0, 0, 0, 0), Stop::Waiting),
+    Halting(Row(6, 0, 0, 1, 0), Stop::Divisor),
+    Halting(Row(8, 0, 0, 0, 9), Stop::Address),
+    Halting(Row(7, 0, 1, 0, -1), Stop::Address),
+    Halting(Row(17, 0, 0, 0, 0), Stop::Place),
 ];
 
 // After LDC 0,7(0) the grant is spent, and the next run tells the stop.
-fn check_second(rt: &impl Abort, second: &Second) {
+fn check_second(rt: &impl Abort, second: &Halting) {
     let code = [
         Instruction::from(Row(10, 0, 0, 0, 7)),
         Instruction::from(second.0),

@@ -12,6 +12,7 @@ static ROWS: [Row; 3] = [
 ];
 
 // The slots of the code store, the cells of the memory, and what is told.
+// The numbers are those of the card, which the tests look at.
 #[derive(Clone, Copy)]
 struct Case(usize, usize, (u8, usize));
 

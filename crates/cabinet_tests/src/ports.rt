@@ -1,7 +1,7 @@
 use crate::samples::*;
 use fixtures::Row;
+use machine::Stop;
 use machine::instruction::Instruction;
-use machine::{Ran, Stop};
 use port::{Ceiling, Live, Port, Record};
 
 #[test]
@@ -138,20 +138,8 @@ fn a_blocked_number_is_told_whole(rt: HostRuntime) {
     let mut cells = [0; 16];
     let mut port = Ceiling::new(Live::new(), 0, 1000);
     let ran = machine::run(&code, &mut registers, &mut cells, &mut port, 9);
-    assert_eq!(rt;
-        ran,
-        Ran {
-            stop: Stop::Blocked(1200),
-            steps: 2,
-        }
-    );
+    assert_eq!(rt; ran, told(Stop::Blocked(1200), 2));
     assert_eq!(rt; port.port.fetch(), Some(1000));
     let again = machine::run(&code, &mut registers, &mut cells, &mut port, 9);
-    assert_eq!(rt;
-        again,
-        Ran {
-            stop: Stop::Place,
-            steps: 1,
-        }
-    );
+    assert_eq!(rt; again, told(Stop::Place, 1));
 }

@@ -1,11 +1,10 @@
 use crate::samples::*;
 use cabinet::{Empty, Loaded, Refused, Started};
 use day::Done;
-use fixtures::{Row, UNTOUCHED};
+use fixtures::{Row, UNTOUCHED, card};
 use machine::Stop;
 use machine::instruction::Instruction;
 use port::Live;
-use refusal::Refusal;
 use std::process::Abort;
 use std::test::Fail;
 
@@ -31,6 +30,7 @@ const USED: [i32; CELLS] = [
     19, 0, 0, 5, 0, 0, 0, 0, 0, 0, 0, 0, 0, 0, 0, 0, 0, 0, 0, 0, MARK, MARK, MARK, MARK,
 ];
 
+// Not `day::Command`: of its commands only these two leave the cabinet loaded.
 #[derive(Clone, Copy)]
 enum Call {
     Run(u32),
@@ -51,10 +51,6 @@ struct Seen {
     code: [Instruction; SLOTS],
     memory: [i32; CELLS],
     setpoint: Option<i32>,
-}
-
-fn card(refusal: Refusal) -> (u8, usize) {
-    (refusal.reason.number(), refusal.place)
 }
 
 fn make_call(
@@ -127,14 +123,13 @@ fn run(grant: u32) -> Trial {
 
 fn loaded_code() -> [Instruction; SLOTS] {
     let mut code = [UNTOUCHED; SLOTS];
-    code[0] = Instruction::from(ROWS[0]);
-    code[1] = Instruction::from(ROWS[1]);
-    code[2] = Instruction::from(ROWS[2]);
-    code[3] = Instruction::from(ROWS[3]);
+    for (slot, row) in code.iter_mut().zip(&ROWS) {
+        *slot = Instruction::from(*row);
+    }
     code
 }
 
-// A run and the number with which it is refused.
+// A run and the number with which it is refused. The numbers are those of the card, which the tests look at.
 #[derive(Clone, Copy)]
 struct Wrong(Trial, u8);
 

@@ -30,8 +30,18 @@ pub(crate) fn image_of(rt: &(impl Abort + AllocGlobal), rows: &[Row]) -> Result<
     Ok(image)
 }
 
+// An instruction, and why it stops.
+#[derive(Clone, Copy)]
+pub(crate) struct Halting(pub(crate) Row, pub(crate) Stop);
+
+// What a run tells.
+pub(crate) fn told(stop: Stop, steps: u32) -> Ran {
+    Ran { stop, steps }
+}
+
+// What a granted run of a cabinet replies.
 pub(crate) fn ran<E>(stop: Stop, steps: u32) -> Result<Done, E> {
-    Ok(Done::Ran(Ran { stop, steps }))
+    Ok(Done::Ran(told(stop, steps)))
 }
 
 // Loads a new cabinet, and ends it.

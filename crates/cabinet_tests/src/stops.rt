@@ -1,14 +1,11 @@
 use crate::samples::*;
 use fixtures::Row;
+use machine::Stop;
 use machine::instruction::Instruction;
-use machine::{Ran, Stop};
 use port::{Live, Port};
 use std::process::Abort;
 
-// An instruction at place 1, and why it stops.
-#[derive(Clone, Copy)]
-struct Halting(Row, Stop);
-
+// Instructions at place 1.
 static HALTING: [Halting; 41] = [
     Halting(Row(0, 0, 0, 0, 0), Stop::Halt(0)),
     Halting(Row(0, 1, 0, 0, 0), Stop::Halt(1)),
@@ -58,7 +55,7 @@ static HALTING: [Halting; 41] = [
     Halting(Row(99, 98, 97, 96, -95), Stop::Place),
 ];
 
-// What an installer is told.
+// What an installer is told. The numbers are those of the card, which the tests look at.
 #[derive(Clone, Copy)]
 struct Number(Stop, u8);
 
@@ -100,7 +97,7 @@ fn check_stop(rt: &impl Abort, code: &[Instruction], before: [i32; 8], stop: Sto
     let mut port = shut_port();
     for grant in [1, 2, 1_000_000] {
         let ran = machine::run(code, &mut registers, &mut cells, &mut port, grant);
-        assert_eq!(rt; ran, Ran { stop, steps: 0 });
+        assert_eq!(rt; ran, told(stop, 0));
     }
     assert_eq!(rt; registers, before);
     assert_eq!(rt; cells, NUMBERED);
@@ -136,13 +133,7 @@ fn a_jump_out_of_the_code_is_a_step(rt: HostRuntime) {
     let mut cells = NUMBERED;
     let mut port = Live::new();
     let ran = machine::run(&code, &mut registers, &mut cells, &mut port, 9);
-    assert_eq!(rt;
-        ran,
-        Ran {
-            stop: Stop::Place,
-            steps: 1,
-        }
-    );
+    assert_eq!(rt; ran, told(Stop::Place, 1));
     assert_eq!(rt; registers, [0, 0, 0, 0, 0, 0, 0, -5]);
 }
 
@@ -156,13 +147,7 @@ fn the_cells_have_their_addresses(rt: HostRuntime) {
     let mut registers = [0; 8];
     let mut port = Live::new();
     let ran = machine::run(&code, &mut registers, &mut [7], &mut port, 9);
-    assert_eq!(rt;
-        ran,
-        Ran {
-            stop: Stop::Address,
-            steps: 1,
-        }
-    );
+    assert_eq!(rt; ran, told(Stop::Address, 1));
     assert_eq!(rt; registers, [7, 0, 0, 0, 0, 0, 0, 1]);
     check_stop_without_cells(&rt);
 }
@@ -172,11 +157,5 @@ fn check_stop_without_cells(rt: &impl Abort) {
     let mut registers = [0; 8];
     let mut port = Live::new();
     let ran = machine::run(&code, &mut registers, &mut [], &mut port, 9);
-    assert_eq!(rt;
-        ran,
-        Ran {
-            stop: Stop::Address,
-            steps: 0,
-        }
-    );
+    assert_eq!(rt; ran, told(Stop::Address, 0));
 }

@@ -7,6 +7,7 @@ use std::test::Fail;
 #[derive(Clone, Copy)]
 struct Damage(u16, u16, u8, usize);
 
+// The numbers are those of the card, which the tests look at.
 // Without a new check: 20.
 static UNSEALED: [Damage; 10] = [
     Damage(0, 0, 1, 0),
@@ -65,20 +66,8 @@ fn strike(image: &mut [u8], damage: &Damage) -> Result<(), Fail> {
     put(image, 512 * usize::from(block) + usize::from(at), value)
 }
 
-fn check_unsealed(
-    rt: &(impl Abort + AllocGlobal),
-    image: &[u8],
-    table: &[Damage],
-) -> Result<(), Fail> {
-    for damage in table {
-        let mut struck = image.to_vec(rt.alloc())?;
-        strike(struck.as_mut_slice(), damage)?;
-        check_refused(rt, struck.as_slice(), 125, (20, damage.3))?;
-    }
-    Ok(())
-}
-
-fn check_resealed(
+// That each damage is refused with this number. For 20 the old check stays; else the block gets a new one.
+fn check_damaged(
     rt: &(impl Abort + AllocGlobal),
     image: &[u8],
     table: &[Damage],
@@ -87,7 +76,9 @@ fn check_resealed(
     for damage in table {
         let mut struck = image.to_vec(rt.alloc())?;
         strike(struck.as_mut_slice(), damage)?;
-        reseal(struck.as_mut_slice(), damage.0)?;
+        if number != 20 {
+            reseal(struck.as_mut_slice(), damage.0)?;
+        }
         check_refused(rt, struck.as_slice(), 125, (number, damage.3))?;
     }
     Ok(())
@@ -97,12 +88,12 @@ fn check_resealed(
 fn damaged_blocks_are_refused(rt: HostRuntime) -> Result<(), Fail> {
     let heap = rt.alloc();
     let image = sample_image(heap, 125, 1536)?;
-    check_unsealed(&rt, image.as_slice(), &UNSEALED)?;
-    check_resealed(&rt, image.as_slice(), &HEADERS, 21)?;
-    check_resealed(&rt, image.as_slice(), &BODIES, 22)?;
+    check_damaged(&rt, image.as_slice(), &UNSEALED, 20)?;
+    check_damaged(&rt, image.as_slice(), &HEADERS, 21)?;
+    check_damaged(&rt, image.as_slice(), &BODIES, 22)?;
     let longest = sample_image(heap, 49228, 406528)?;
-    check_unsealed(&rt, longest.as_slice(), &LATE)?;
-    check_resealed(&rt, longest.as_slice(), &LATE, 22)
+    check_damaged(&rt, longest.as_slice(), &LATE, 20)?;
+    check_damaged(&rt, longest.as_slice(), &LATE, 22)
 }
 
 // The first faulty block counts, and in it the check, then the header, then the instructions.

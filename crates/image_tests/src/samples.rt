@@ -14,6 +14,7 @@ pub(crate) fn sample_code(heap: Global, count: u16) -> Result<Vec<Instruction>, 
 }
 
 fn sample_instruction(k: u16) -> Instruction {
+    // Both casts are proved to fit.
     let register = (k % 8) as u8;
     Instruction::from(Row((7 + k % 3) as u8, register, register, 0, i32::from(k)))
 }
@@ -27,6 +28,7 @@ pub(crate) fn sample_image(heap: Global, count: u16, size: usize) -> Result<Vec<
 }
 
 // That reading into so many places is refused, and leaves the places as they were.
+// The numbers of refusals are those of the card, which the tests look at.
 pub(crate) fn check_refused(
     rt: &(impl Abort + AllocGlobal),
     image: &[u8],

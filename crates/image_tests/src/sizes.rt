@@ -7,7 +7,7 @@ use std::test::Fail;
 
 // Instructions, blocks, bytes, and the index and the count of the last block.
 #[derive(Clone, Copy)]
-struct Size(u16, u16, u32, u16, u8);
+struct Size(u16, u16, usize, u16, u8);
 
 static SIZES: [Size; 4] = [
     Size(1, 1, 512, 0, 1),
@@ -47,9 +47,9 @@ fn check_reading(
 // Writes an image into a store with three bytes to spare, and reads it back.
 fn check_size(rt: &(impl Abort + AllocGlobal), size: &Size) -> Result<(), Fail> {
     let Size(instructions, blocks, bytes, _, _) = *size;
-    let bytes = bytes as usize;
+    let room = bytes.checked_add(3).ok_or("too long")?;
     let code = sample_code(rt.alloc(), instructions)?;
-    let mut store = vec![in rt.alloc(); MARK; bytes + 3]?;
+    let mut store = vec![in rt.alloc(); MARK; room]?;
     let written = image::write(0xfffffffe, code.as_slice(), store.as_mut_slice())?;
     assert_eq!(rt; written, usize::from(blocks));
     let image = store.as_slice().get(0..bytes).ok_or("no image")?;

@@ -5,8 +5,9 @@ use std::alloc::{AllocError, Global};
 use std::test::Fail;
 
 // Instructions, the indices of up to two malformed ones, the bytes of the store, and the refusal.
+// The numbers are those of the card, which the tests look at.
 #[derive(Clone, Copy)]
-struct Case(u16, Option<u16>, Option<u16>, u32, u8, usize);
+struct Case(u16, Option<u16>, Option<u16>, usize, u8, usize);
 
 static CASES: [Case; 15] = [
     Case(0, None, None, 0, 23, 0),
@@ -49,7 +50,7 @@ fn code_and_store_are_refused(rt: HostRuntime) -> Result<(), Fail> {
     for case in &CASES {
         let Case(_, _, _, bytes, number, place) = *case;
         let code = spoiled_code(heap, case)?;
-        let mut store = vec![in heap; MARK; bytes as usize]?;
+        let mut store = vec![in heap; MARK; bytes]?;
         let reply = image::write(7, code.as_slice(), store.as_mut_slice());
         assert_eq!(rt; refused(reply), Some((number, place)));
         assert!(rt; are_all(&MARK, store.as_slice()));
