@@ -11,7 +11,7 @@ use Rattle.machine.specs.Machine.{State, start}
 use Rattle.machine.specs.Run.{Outcome, run_over, none}
 use Rattle.machine.proofs.Runs.{joined, run_is_steps}
 use Rattle.image.specs.Layout.{layout}
-use Rattle.refusal.specs.Faults.{unless}
+use Rattle.refusal.proofs.Faults.{passed_by, passed_if, passed_both}
 use Rattle.image.specs.Reading.{code_of, length_fault, image_fault}
 use Rattle.cabinet.specs.declared.Empty.{Empty}
 use Rattle.cabinet.specs.declared.Loaded.{Loaded}
@@ -48,22 +48,15 @@ start_length : (n : ℕ) → length (start n).cells ≡ n
 start_length n = length-set _ 0 _ ∙ length-replicate n (pos 0)
 
 -- a granted load gives the number of the image's instructions, for which the code store has room
-test_passed : (f g : Option Refusal) (a b : Bool) (n m : ℕ) (x y : Refusal)
-    → unless f (if a then unless g (if b then Ok n else Err x) else Err y) ≡ Ok m → (m ≡ n) × (b ≡ true)
-test_passed None None true true n m x y e = (cc, refl)
-test_passed None None true false n m x y e = let z : ◌≡◌ {A = ℕ} 0 1 = cc in absurd (omega arith)
-test_passed None (Some g) true b n m x y e = let z : ◌≡◌ {A = ℕ} 0 1 = cc in absurd (omega arith)
-test_passed None g false b n m x y e = let z : ◌≡◌ {A = ℕ} 0 1 = cc in absurd (omega arith)
-test_passed (Some f) g a b n m x y e = let z : ◌≡◌ {A = ℕ} 0 1 = cc in absurd (omega arith)
-
 loaded_count : (image : List ℕ) (slots cells n : ℕ) → load_reply image slots cells ≡ Ok n
     → (n ≡ length (code_of layout image)) × (n ≤ slots)
 loaded_count image slots cells n e =
     let size = length (code_of layout image) in
-    let tests = test_passed (length_fault layout (length image)) (image_fault layout image) (leb 16 cells && leb cells 16384)
-    (leb size slots) size n _ _ e in
-    let fits = leb-true size slots tests.1 in
-    (tests.0, omega (arith, tests.0))
+    let (_, sized) = passed_by (length_fault layout (length image)) _ n (sym e) in
+    let (_, granted) = passed_if (leb 16 cells && leb cells 16384) _ _ n sized in
+    let (_, room, count) = passed_both (image_fault layout image) (leb size slots) n size _ granted in
+    let fits = leb-true size slots room in
+    (count, omega arith)
 
 opened_reached : (code : List Instruction) (n : ℕ) → Reached (opened code n)
 opened_reached code n = record { steps = none; stop = tt }

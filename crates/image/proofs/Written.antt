@@ -12,7 +12,7 @@ pub drop_row : {X : Type 0} (xs : List X) (w k : ℕ) → drop w (drop (w * k) x
 drop_row xs w k =
     drop-drop w (w * k) xs ∙ ap (λ n. drop n xs) (sym (ap (λ n. w * n) (add-one k) ∙ mul-suc w k))
 
-one_less : (n k : ℕ) → k < n → n - k ≡ suc (n - (k + 1))
+pub one_less : (n k : ℕ) → k < n → n - k ≡ suc (n - (k + 1))
 one_less n k h = omega arith
 
 -- a row and what follows it

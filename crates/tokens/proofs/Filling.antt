@@ -11,6 +11,7 @@ use Rattle.tokens.specs.declared.token.Token.{Token}
 use Rattle.tokens.specs.Tokens.{Tok, tok}
 use Rattle.tokens.specs.Lexemes.{Lexeme, Ending, complete, unclosed, unexpected, Lexed, finished}
 use Rattle.refusal.specs.Faults.{refusal, or_else}
+use Rattle.refusal.proofs.Faults.{or_else_none}
 use Rattle.tokens.specs.Reply.{too_large, fault, first_fault, start, TokensAfter}
 use Rattle.tokens.specs.Scanning.{Skips, Leads, Fails, over_limit, open_comment, stray_byte, Stands}
 use Rattle.tokens.specs.Survey.{Faultless, Filled}
@@ -44,10 +45,6 @@ module _ {p : ℕ} {bs : List ℕ} {ls : List Lexeme} (d : Lexed p bs ls complet
 abbrev Small : Lexeme → Type 0
 Small l = too_large l.token ≡ false
 
-pub later_clean : (f g : Option Refusal) → or_else f g ≡ None → g ≡ None
-later_clean None g e = e
-later_clean (Some f) g e = cc
-
 small_numbers : (last : Lexeme) (ls : List Lexeme) (e : Ending) → first_fault last ls e ≡ None → AllByRecursion Small ls
 small_numbers last [] e clean = tt
 small_numbers last (l ∷ ls) e clean =
@@ -55,7 +52,7 @@ small_numbers last (l ∷ ls) e clean =
       | inl large ↦
           let found : fault last l ≡ Some (refusal NumberTooLarge l.place) = cond-true _ _ _ large in
           cc (clean, ap (λ f. or_else f (first_fault l ls e)) found)
-      | inr small ↦ (small, small_numbers l ls e (later_clean (fault last l) (first_fault l ls e) clean))
+      | inr small ↦ (small, small_numbers l ls e (or_else_none (fault last l) (first_fault l ls e) clean).1)
     ]
 
 no_fault : {p : ℕ} {bs : List ℕ} {ls : List Lexeme} {f : Refusal} → Lexed p bs ls complete → AllByRecursion Small ls → Fails p bs f → ⊥
