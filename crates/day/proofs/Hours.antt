@@ -2,7 +2,7 @@
 use Rattle.std.proofs.Common.{◌≡◌, ℕ, ◌+◌, ◌<◌, ◌≤◌, min, Bool, true, false, not, ◌&&◌, eqb, leb, List, [], ◌∷◌, ◌++◌, length, get_or, take, drop, set, ℤ, pos, Some, None, Ok, Err, Option, Result, sym, refl, ap, ◌∙◌, subst, append_assoc, arith, length-append, length-take, length-drop, length-set, Bor}
 use Rattle.std.specs.Prelude.{if◌then◌else◌}
 use lib.ListN.{length-replicate}
-use Rattle.std.proofs.lemmas.List.{take_all, take_at, take-take, take_more, take_more_set, take-append-drop, length-take-le, drop-drop, drop-set-lt}
+use Rattle.std.proofs.lemmas.List.{take_all, take_at, take-take, take_more, take_more_set, take-append-drop, length-take-le}
 use Rattle.std.proofs.lemmas.Bool.{or_parts, not-false, eqb-true, leb-true}
 use Rattle.refusal.specs.declared.Refusal.{Refusal}
 use Rattle.port.specs.Ways.{Ways}
@@ -245,9 +245,6 @@ pub longer : {M O P : Type 0} {w : Ways M} {meaning : P → M} {touched : O → 
 longer {w = w} {meaning} {touched} {o₀} {o' = o'} {p₀} {p' = p'} {s₀} {s' = s'} {b' = b'} cs rs i z r l k day one =
     subst (λ x. Day w meaning touched o₀ p₀ s₀ x (take (i + 1) (set rs i r)) o' p' s' b') (sym (take_more cs i z l))
     (subst (λ x. Day w meaning touched o₀ p₀ s₀ (take i cs ++ (get_or cs i z ∷ [])) x o' p' s' b') (sym (take_more_set rs i r k)) (later day one))
-
-pub past : {A : Type 0} (xs ys : List A) (i : ℕ) (y : A) → drop i xs ≡ drop i ys → drop (i + 1) (set xs i y) ≡ drop (i + 1) ys
-past xs ys i y e = drop-set-lt (i + 1) xs i y (omega arith) ∙ sym (drop-drop 1 i xs) ∙ ap (drop 1) e ∙ drop-drop 1 i ys
 
 -- a day through all the orders for which there is room
 pub worked : {M O P : Type 0} {w : Ways M} {meaning : P → M} {touched : O → P → O → P → Type 0} {o₀ o : O} {p₀ p : P} {s₀ s : Setup M}

@@ -2,7 +2,8 @@
 use Rattle.std.proofs.Common.{◌≡◌, ℕ, ◌+◌, ◌-◌, ◌<◌, ◌≤◌, false, List, [], ◌∷◌, ◌++◌, map, length, take, drop, set, Some, None, Ok, Err, Option, Result, sym, refl, ap, ◌∙◌, subst, inl, inr, append_assoc, append-nil, arith, length-set}
 use Rattle.std.proofs.Math.Nat.{sub_self}
 use Rattle.std.specs.List.{AllByRecursion}
-use Rattle.std.proofs.lemmas.List.{drop-drop, drop-set-lt, take_more_set, map_push, length_push}
+use Rattle.std.proofs.lemmas.Grind.{drop_more_same}
+use Rattle.std.proofs.lemmas.List.{drop-set-lt, take_more_set, map_push, length_push}
 use Rattle.std.proofs.lemmas.Bool.{cases_Bool, cond-true, both_ways}
 use Rattle.refusal.specs.declared.Refusal.{Refusal}
 use Rattle.refusal.specs.declared.Reason.TheVariants.{NumberTooLarge}
@@ -76,12 +77,6 @@ module _ (tokens : List Token) (count : ℕ) (token : Token) (inside : count < l
       ∙ ap (λ ts. ts ++ tok token ∷ []) filled
       ∙ ap (λ t. map token_of done ++ t ∷ []) is
       ∙ sym (map_push token_of done l)
-
-  write_kept : (before : List Token) → drop count tokens ≡ drop count before
-      → drop (count + 1) (set tokens count token) ≡ drop (count + 1) before
-  write_kept before kept =
-      drop-set-lt (count + 1) tokens count token (omega arith)
-      ∙ sym (drop-drop 1 count tokens) ∙ ap (drop 1) kept ∙ drop-drop 1 count before
 
 -- ---- the loop
 
@@ -162,7 +157,7 @@ module _ {source rest : List ℕ} {count : ℕ} {tokens before : List Token} (v 
           counted = let c = v.counted in omega arith;
           room = length-set tokens count token ∙ v.room;
           filled = write_filled tokens count token inside v.done (lexeme_of l) v.filled refl;
-          kept = write_kept tokens count token inside before v.kept;
+          kept = drop-set-lt (count + 1) tokens count token (omega arith) ∙ drop_more_same tokens before count v.kept;
         }
 
   pub filled_end : rest ≡ [] → Filled source before tokens
