@@ -177,6 +177,7 @@ fn decode_blocks(blocks: &[[u8; BLOCK]], code: &mut [Instruction])
     requires room { length (content layout blocks.now) ≤ length code.old }
     ensures { let held = content layout blocks.now in code.new ≡ held ++ drop (length held) code.old }
 {
+    // After `split_at_mut` in a loop nothing is known of the whole store, so the offset is kept.
     let mut at = 0;
     for block in blocks {
         let slots = slots_of(block);

@@ -1,7 +1,5 @@
-use Rattle.std.proofs.Common.{◌≡◌, ℕ, ◌+◌, ◌-◌, ◌*◌, ◌<◌, List, ◌++◌, length, take, drop, min, subst, sym, ap, ◌∙◌, arith, length-drop}
-use borrow.Rule.Slice.PartMut.{put_mid}
-use Rattle.std.specs.Iterator.Adapters.{enumerate_count, enumerate_source}
-use Rattle.std.specs.Slice.Iter.{chunks_rest}
+use Rattle.std.proofs.Common.{◌≡◌, ℕ, ◌*◌, ◌<◌, ◌++◌, length, drop, sym, ap, ◌∙◌, arith, length-drop}
+use Rattle.std.specs.Iterator.Adapters.{enumerate_count}
 use Rattle.image.specs.Layout.{layout}
 use Rattle.image.specs.Blocks.{block, blocks_from, image}
 use Rattle.image.proofs.Encoding.{sound}
