@@ -1,5 +1,5 @@
 -- What an hour leaves: a book that matches.
-use Rattle.std.proofs.Common.{◌≡◌, ℕ, ◌+◌, ◌<◌, ◌≤◌, min, Bool, true, false, not, ◌&&◌, eqb, leb, List, [], ◌∷◌, ◌++◌, length, get_or, take, drop, set, ℤ, pos, Some, None, Ok, Err, Option, Result, sym, refl, ap, ◌∙◌, subst, append_assoc, arith, length-append, length-take, length-drop, length-set, Bor}
+use Rattle.std.proofs.Common.{◌≡◌, ℕ, ◌+◌, ◌<◌, ◌≤◌, min, Bool, true, false, not, ◌&&◌, eqb, leb, List, [], ◌∷◌, ◌++◌, length, get_or, take, drop, set, ℤ, pos, None, Ok, Err, Option, Result, sym, refl, ap, ◌∙◌, subst, append_assoc, arith, length-append, length-take, length-drop, length-set, Bor}
 use Rattle.std.specs.Prelude.{if◌then◌else◌}
 use lib.ListN.{length-replicate}
 use Rattle.std.proofs.lemmas.List.{take_all, take_at, take-take, take_more, take_more_set, take-append-drop, length-take-le}
