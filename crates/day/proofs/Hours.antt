@@ -1,8 +1,8 @@
 -- What an hour leaves: a book that matches.
-use Rattle.std.proofs.Common.{◌≡◌, ℕ, ◌+◌, ◌<◌, ◌≤◌, min, Bool, true, false, not, ◌&&◌, eqb, leb, List, [], ◌∷◌, ◌++◌, length, get_or, take, drop, set, ℤ, pos, Some, None, Ok, Err, Option, Result, sym, refl, ap, ◌∙◌, subst, append_assoc, arith, length-append, length-take, length-drop, length-set, Bor}
+use Rattle.std.proofs.Common.{◌≡◌, ℕ, ◌+◌, ◌<◌, ◌≤◌, min, Bool, true, false, not, ◌&&◌, eqb, leb, List, [], ◌∷◌, ◌++◌, length, get_or, take, drop, set, ℤ, pos, None, Ok, Err, Option, Result, sym, refl, ap, ◌∙◌, subst, append_assoc, arith, length-append, length-take, length-drop, length-set, Bor}
 use Rattle.std.specs.Prelude.{if◌then◌else◌}
 use lib.ListN.{length-replicate}
-use Rattle.std.proofs.lemmas.List.{take_all, take_at, take-take, take_more, take_more_set, take-append-drop, length-take-le, drop-drop, drop-set-lt}
+use Rattle.std.proofs.lemmas.List.{take_all, take_at, take-take, take_more, take_more_set, take-append-drop, length-take-le}
 use Rattle.std.proofs.lemmas.Bool.{or_parts, not-false, eqb-true, leb-true}
 use Rattle.refusal.specs.declared.Refusal.{Refusal}
 use Rattle.port.specs.Ways.{Ways}
@@ -11,7 +11,7 @@ use Rattle.machine.specs.Machine.{State, start}
 use Rattle.machine.specs.Run.{Outcome, run_over, none}
 use Rattle.machine.proofs.Runs.{joined, run_is_steps}
 use Rattle.image.specs.Layout.{layout}
-use Rattle.refusal.specs.Faults.{unless}
+use Rattle.refusal.proofs.Faults.{passed_by, passed_if, passed_both}
 use Rattle.image.specs.Reading.{code_of, length_fault, image_fault}
 use Rattle.cabinet.specs.declared.Empty.{Empty}
 use Rattle.cabinet.specs.declared.Loaded.{Loaded}
@@ -48,22 +48,15 @@ start_length : (n : ℕ) → length (start n).cells ≡ n
 start_length n = length-set _ 0 _ ∙ length-replicate n (pos 0)
 
 -- a granted load gives the number of the image's instructions, for which the code store has room
-test_passed : (f g : Option Refusal) (a b : Bool) (n m : ℕ) (x y : Refusal)
-    → unless f (if a then unless g (if b then Ok n else Err x) else Err y) ≡ Ok m → (m ≡ n) × (b ≡ true)
-test_passed None None true true n m x y e = (cc, refl)
-test_passed None None true false n m x y e = let z : ◌≡◌ {A = ℕ} 0 1 = cc in absurd (omega arith)
-test_passed None (Some g) true b n m x y e = let z : ◌≡◌ {A = ℕ} 0 1 = cc in absurd (omega arith)
-test_passed None g false b n m x y e = let z : ◌≡◌ {A = ℕ} 0 1 = cc in absurd (omega arith)
-test_passed (Some f) g a b n m x y e = let z : ◌≡◌ {A = ℕ} 0 1 = cc in absurd (omega arith)
-
 loaded_count : (image : List ℕ) (slots cells n : ℕ) → load_reply image slots cells ≡ Ok n
     → (n ≡ length (code_of layout image)) × (n ≤ slots)
 loaded_count image slots cells n e =
     let size = length (code_of layout image) in
-    let tests = test_passed (length_fault layout (length image)) (image_fault layout image) (leb 16 cells && leb cells 16384)
-    (leb size slots) size n _ _ e in
-    let fits = leb-true size slots tests.1 in
-    (tests.0, omega (arith, tests.0))
+    let (_, sized) = passed_by (length_fault layout (length image)) _ n (sym e) in
+    let (_, granted) = passed_if (leb 16 cells && leb cells 16384) _ _ n sized in
+    let (_, room, count) = passed_both (image_fault layout image) (leb size slots) n size _ granted in
+    let fits = leb-true size slots room in
+    (count, omega arith)
 
 opened_reached : (code : List Instruction) (n : ℕ) → Reached (opened code n)
 opened_reached code n = record { steps = none; stop = tt }
@@ -252,9 +245,6 @@ pub longer : {M O P : Type 0} {w : Ways M} {meaning : P → M} {touched : O → 
 longer {w = w} {meaning} {touched} {o₀} {o' = o'} {p₀} {p' = p'} {s₀} {s' = s'} {b' = b'} cs rs i z r l k day one =
     subst (λ x. Day w meaning touched o₀ p₀ s₀ x (take (i + 1) (set rs i r)) o' p' s' b') (sym (take_more cs i z l))
     (subst (λ x. Day w meaning touched o₀ p₀ s₀ (take i cs ++ (get_or cs i z ∷ [])) x o' p' s' b') (sym (take_more_set rs i r k)) (later day one))
-
-pub past : {A : Type 0} (xs ys : List A) (i : ℕ) (y : A) → drop i xs ≡ drop i ys → drop (i + 1) (set xs i y) ≡ drop (i + 1) ys
-past xs ys i y e = drop-set-lt (i + 1) xs i y (omega arith) ∙ sym (drop-drop 1 i xs) ∙ ap (drop 1) e ∙ drop-drop 1 i ys
 
 -- a day through all the orders for which there is room
 pub worked : {M O P : Type 0} {w : Ways M} {meaning : P → M} {touched : O → P → O → P → Type 0} {o₀ o : O} {p₀ p : P} {s₀ s : Setup M}

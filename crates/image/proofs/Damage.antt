@@ -8,12 +8,13 @@ use Rattle.refusal.specs.declared.Reason.TheVariants.{BlockCheck, CodeStoreTooSh
 use Rattle.crc.specs.Crc.{sealed, Bytes}
 use Rattle.crc.proofs.Burst.{burst_detected}
 use Rattle.refusal.specs.Faults.{refusal, or_else, unless}
+use Rattle.refusal.proofs.Faults.{or_else_none}
 use Rattle.image.specs.Layout.{Layout}
 use Rattle.image.specs.Reading.{four_at, header_right, body_right, fault, first_fault, blocks_of, length_fault, image_fault, code_of, read_reply}
 use Rattle.image.specs.Laws.{Damaged, DamageFound}
 use Rattle.image.proofs.Scan.{next}
 use Rattle.image.proofs.Chunks.{length-first_chunks, get_or-first_chunks}
-use Rattle.image.proofs.Faults.{fault_is, right_parts, or_else_none}
+use Rattle.image.proofs.Faults.{fault_is, right_parts}
 use Rattle.image.proofs.ImageForm.{same_four}
 
 abbrev block_at : List ℕ → ℕ → List ℕ

@@ -1,9 +1,9 @@
-use Rattle.std.proofs.Common.{◌≡◌, ℕ, ◌+◌, ◌<◌, ◌≤◌, Bool, true, false, cond, not, eqb, ltb, leb, List, get_or, Some, None, Ok, Err, Option, sym, refl, ap, ◌∙◌, inl, inr, arith}
+use Rattle.std.proofs.Common.{◌≡◌, ℕ, ◌+◌, ◌<◌, ◌≤◌, Bool, true, false, cond, not, eqb, ltb, leb, List, get_or, Some, None, Option, sym, refl, ap, ◌∙◌, inl, inr, arith}
 use Rattle.std.proofs.lemmas.Bool.{and_parts, cases_lt, cond-true, cond-false, leb-true, eqb-true, lt-ltb, le-ltb}
 use Rattle.refusal.specs.declared.Refusal.{Refusal}
 use Rattle.refusal.specs.declared.Reason.TheVariants.{BlockCheck, BlockHeader, InstructionForm}
 use Rattle.crc.specs.Crc.{sealed}
-use Rattle.refusal.specs.Faults.{refusal, unless, or_else}
+use Rattle.refusal.specs.Faults.{refusal}
 use Rattle.image.specs.Layout.{Layout}
 use Rattle.image.specs.Reading.{two_at, four_at, count_right, header_right, body_right, fault}
 
@@ -19,18 +19,6 @@ no_fault index true true true e = (refl, refl, refl)
 no_fault index true true false e = absurd (cc)
 no_fault index true false c e = absurd (cc)
 no_fault index false b c e = absurd (cc)
-
-pub refused_by : {X : Type 0} (f : Option Refusal) (e : Refusal) (x : X) → Err e ≡ unless f (Ok x) → f ≡ Some e
-refused_by None e x h = absurd (cc)
-refused_by (Some f) e x h = cc
-
-pub passed_by : {X : Type 0} (f : Option Refusal) (x y : X) → Ok x ≡ unless f (Ok y) → (f ≡ None) × (x ≡ y)
-passed_by None x y h = (refl, cc)
-passed_by (Some f) x y h = absurd (cc)
-
-pub or_else_none : (f g : Option Refusal) → or_else f g ≡ None → (f ≡ None) × (g ≡ None)
-or_else_none None g h = (refl, h)
-or_else_none (Some f) g h = absurd (cc)
 
 pub record Count {A : Type 0} (l : Layout A) (index blocks count : ℕ) : Type 0 where
   pub some : 1 ≤ count

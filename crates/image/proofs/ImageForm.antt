@@ -10,7 +10,8 @@ use Rattle.std.proofs.lemmas.List.Folds.{list_all-append}
 use Rattle.std.proofs.lemmas.Bool.{and_parts, and_from, eq-eqb, le-leb, leb-true, eqb-true, cases_lt, cases_Bool, cond-true, cond-false}
 use Rattle.refusal.specs.declared.Refusal.{Refusal}
 use Rattle.crc.specs.Crc.{Bytes}
-use Rattle.refusal.specs.Faults.{or_else, unless}
+use Rattle.refusal.specs.Faults.{or_else}
+use Rattle.refusal.proofs.Faults.{passed_both, or_else_none}
 use Rattle.image.specs.Layout.{Layout, layout}
 use Rattle.image.specs.Blocks.{block, blocks_from, blocks_for, image}
 use Rattle.image.specs.Writing.{write_reply, store_after}
@@ -19,7 +20,7 @@ use Rattle.image.specs.Laws.{ReadsAs, WrittenAs, SixtyThree}
 use Rattle.image.proofs.Sound.{Sound, length_block}
 use Rattle.image.proofs.Chunks.{length_instructions}
 use Rattle.image.proofs.Written.{split_row}
-use Rattle.image.proofs.Faults.{Count, or_else_none, right_parts, header_parts}
+use Rattle.image.proofs.Faults.{Count, right_parts, header_parts}
 use Rattle.image.proofs.BlockForm.{made_right, right_made}
 
 all_split : {X : Type 0} (test : X → Bool) (n : ℕ) (xs : List X) → list_all test xs ≡ true
@@ -302,11 +303,6 @@ module _ {A : Type 0} (l : Layout A) (s : Sound l) where
         bytes = all_right.0 ∙ same;
       }
 
-  read_accepted : (f : Option Refusal) (r n : ℕ) (b : Bool) (x : Refusal) → Ok r ≡ unless f (cond b (Ok n) (Err x)) → (f ≡ None) × (r ≡ n)
-  read_accepted None r n true x e = (refl, cc)
-  read_accepted None r n false x e = absurd (cc)
-  read_accepted (Some f) r n b x e = absurd (cc)
-
   pub write_read : (number : ℕ) (code : List A) (before after : List ℕ) (r : Result ℕ Refusal) → number < 2 ^ 32
       → IfOk r (λ _. All (λ a. l.decode (l.encode a) ≡ a) code)
       → r ≡ write_reply l code (length before) → after ≡ store_after l number code before r
@@ -330,10 +326,10 @@ module _ {A : Type 0} (l : Layout A) (s : Sound l) where
   read_write image before after (Err e) each reply store = tt
   read_write image before after (Ok n) each reply store =
       let code = code_of l image in
-      let faultless = read_accepted (image_fault l image) n (length code) (leb (length code) (length before)) _ reply in
+      let (faultless, _, count) = passed_both (image_fault l image) (leb (length code) (length before)) n (length code) _ reply in
       let front : take n after ≡ code =
-      ap (take n) store ∙ take_at code (drop n before) n (sym faultless.1) in
-      subst (λ xs. WrittenAs l image (four_at image 0) xs) (sym front) (written_back image each faultless.0)
+      ap (take n) store ∙ take_at code (drop n before) n (sym count) in
+      subst (λ xs. WrittenAs l image (four_at image 0) xs) (sym front) (written_back image each faultless)
 
 pub sixty_three : SixtyThree
 unfolding image

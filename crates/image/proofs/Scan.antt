@@ -3,11 +3,12 @@ use Rattle.std.proofs.Common.{◌≡◌, ℕ, zero, suc, ◌+◌, ◌<◌, ◌�
 use Rattle.std.proofs.lemmas.List.{at_drop_more}
 use Rattle.refusal.specs.declared.Refusal.{Refusal}
 use Rattle.refusal.specs.Faults.{unless, or_else}
+use Rattle.refusal.proofs.Faults.{refused_by, passed_by, or_else_none}
 use Rattle.image.specs.Layout.{Layout}
 use Rattle.image.specs.Reading.{fault, first_fault, held, content}
 use Rattle.image.proofs.Pieces.{joined_next}
 use Rattle.image.proofs.Chunks.{length_instructions}
-use Rattle.image.proofs.Faults.{refused_by, passed_by, or_else_none, right_parts, header_parts}
+use Rattle.image.proofs.Faults.{right_parts, header_parts}
 
 few : {A : Type 0} (l : Layout A) (number index blocks : ℕ) (block : List ℕ) → fault l number index blocks block ≡ None
     → get_or block 8 0 ≤ l.capacity
@@ -34,15 +35,16 @@ module _ {A : Type 0} (l : Layout A) (number n : ℕ) where
 
     pub passes : (m : ℕ) → Ok m ≡ unless (fault l number i n here) (Ok (get_or here 8 0)) → Passed m
     passes m passed =
-        let both = passed_by (fault l number i n here) m (get_or here 8 0) passed in
+        let (clean, is) = passed_by (fault l number i n here) (Ok (get_or here 8 0)) m passed in
+        let same : m ≡ get_or here 8 0 = cc is in
         let grown = ap length (joined_next (held l) blocks i [] inside) in
         let more = length-append (content l (take i blocks)) (held l here) in
         let size = length_instructions l (get_or here 8 0) (drop 12 here) in
-        let short = few l number i n here both.0 in
+        let short = few l number i n here clean in
         record {
-          onward = sym (next ∙ ap (λ f. or_else f (first_fault l number n (i + 1) (drop (i + 1) blocks))) both.0);
-          counted = omega (arith, both.1);
-          few_here = omega (arith, both.1);
+          onward = sym (next ∙ ap (λ f. or_else f (first_fault l number n (i + 1) (drop (i + 1) blocks))) clean);
+          counted = omega arith;
+          few_here = omega arith;
         }
 
   pub all_few : (i : ℕ) (blocks : List (List ℕ)) → first_fault l number n i blocks ≡ None → All (λ block. get_or block 8 0 ≤ l.capacity) blocks

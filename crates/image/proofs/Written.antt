@@ -12,7 +12,7 @@ pub drop_row : {X : Type 0} (xs : List X) (w k : ℕ) → drop w (drop (w * k) x
 drop_row xs w k =
     drop-drop w (w * k) xs ∙ ap (λ n. drop n xs) (sym (ap (λ n. w * n) (add-one k) ∙ mul-suc w k))
 
-one_less : (n k : ℕ) → k < n → n - k ≡ suc (n - (k + 1))
+pub one_less : (n k : ℕ) → k < n → n - k ≡ suc (n - (k + 1))
 one_less n k h = omega arith
 
 -- a row and what follows it
@@ -63,6 +63,17 @@ module _ {A : Type 0} (l : Layout A) (s : Sound l) (number blocks : ℕ) (code :
             drop-put_mid (512 * n) (512 * (n + 1) - 512 * n) store bytes (512 * blocks) (omega arith) (omega arith) (omega arith)
             ∙ w.kept;
       }
+
+  -- one part more, which came off the front of the code ahead
+  pub write_row : (n i later : ℕ) (store bytes : List ℕ) (size : ℕ) (ahead part rest : List A) → n < blocks → 512 * blocks ≤ length store
+      → i ≡ n → later ≡ n + 1 → size ≡ l.capacity → ahead ≡ drop (l.capacity * n) code → ahead ≡ part ++ rest
+      → length part ≡ min size (length ahead) → bytes ≡ block l number i blocks part → Written n store
+      → (rest ≡ drop (l.capacity * later) code) × Written later (put_mid (512 * i) (512 * (i + 1) - 512 * i) store bytes)
+  write_row n i later store bytes size ahead part rest inside room here next wide is split long made w =
+      let row = first_row ahead part rest l.capacity split (rw wide at long) in
+      let there : bytes ≡ block l number n blocks (take l.capacity (drop (l.capacity * n) code)) =
+      made ∙ ap (λ k. block l number k blocks part) here ∙ ap (block l number n blocks) (row.0 ∙ ap (take l.capacity) is) in
+      rw (here, next) (row.1 ∙ ap (drop l.capacity) is ∙ drop_row code l.capacity n, write_next n store bytes inside room there w)
 
   pub write_done : (n : ℕ) (store : List ℕ) → n ≡ blocks → Written n store
       → store ≡ blocks_from l number blocks 0 blocks code ++ drop (512 * blocks) before

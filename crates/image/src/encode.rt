@@ -47,6 +47,7 @@ pub(crate) fn encoded_block(label: Label, part: &[Instruction]) -> [u8; BLOCK]
     ensures { result ≡ block layout label.number label.index label.blocks part.now }
 {
     let mut block = [0; BLOCK];
+    // The count is proved to fit: `try_from` would add a refusal that never comes.
     block[..HEADER].copy_from_slice(&encoded_header(label, part.len() as u8));
     encode_part(&mut block[HEADER..HEADER + WIDTH * part.len()], part);
     let check = check_of(&block);

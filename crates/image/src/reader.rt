@@ -23,6 +23,18 @@ pub struct Header {
     pub check: u16,
 }
 
+impl Header {
+    fn label(self) -> Label
+        ensures { result ≡ record { number = self.number; index = self.index; blocks = self.blocks } }
+    {
+        Label {
+            number: self.number,
+            index: self.index,
+            blocks: self.blocks,
+        }
+    }
+}
+
 fn header_in(block: &[u8; BLOCK]) -> Header
     ensures { result ≡ header_of block.now }
 {
@@ -90,9 +102,7 @@ fn is_header_right(block: &[u8; BLOCK], label: Label) -> bool
     ensures few { OnTrue result (slice_index block.now 8 ≤ 62) }
 {
     let header = header_in(block);
-    header.number == label.number
-        && header.index == label.index
-        && header.blocks == label.blocks
+    header.label() == label
         && label.allows(header.count)
         && block[9] == 0
         && block[10] == 0
@@ -146,11 +156,7 @@ fn check_blocks(number: u32, blocks: &[[u8; BLOCK]]) -> Result<usize, Refusal>
 {
     let mut total = 0;
     for (index, block) in blocks.iter().enumerate() {
-        let label = Label {
-            number,
-            index: index as u16,
-            blocks: blocks.len() as u16,
-        };
+        let label = Label::new(number, index, blocks.len());
         total += check_block(block, label)?;
     }
     Ok(total)
@@ -171,6 +177,7 @@ fn decode_blocks(blocks: &[[u8; BLOCK]], code: &mut [Instruction])
     requires room { length (content layout blocks.now) ≤ length code.old }
     ensures { let held = content layout blocks.now in code.new ≡ held ++ drop (length held) code.old }
 {
+    // After `split_at_mut` in a loop nothing is known of the whole store, so the offset is kept.
     let mut at = 0;
     for block in blocks {
         let slots = slots_of(block);

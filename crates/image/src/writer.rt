@@ -36,11 +36,7 @@ fn write_blocks(number: u32, code: &[Instruction], blocks: usize, store: &mut [u
 {
     // After `as_chunks_mut` nothing is known of the store, so blocks go by index.
     for (index, part) in code.chunks(CAPACITY).enumerate() {
-        let label = Label {
-            number,
-            index: index as u16,
-            blocks: blocks as u16,
-        };
+        let label = Label::new(number, index, blocks);
         store[BLOCK * index..BLOCK * (index + 1)].copy_from_slice(&encoded_block(label, part));
     }
 }

@@ -1,8 +1,9 @@
 -- The pass that writes the tokens of a source without fault.
-use Rattle.std.proofs.Common.{◌≡◌, ℕ, ◌+◌, ◌-◌, ◌<◌, ◌≤◌, false, List, [], ◌∷◌, ◌++◌, map, length, take, drop, set, Some, None, Ok, Err, Option, Result, sym, refl, ap, ◌∙◌, subst, inl, inr, append_assoc, append-nil, arith, length-set}
+use Rattle.std.proofs.Common.{◌≡◌, ℕ, ◌+◌, ◌-◌, ◌<◌, ◌≤◌, false, List, [], ◌∷◌, ◌++◌, map, length, take, drop, set, Some, None, Ok, Err, Result, sym, refl, ap, ◌∙◌, subst, inl, inr, append_assoc, append-nil, arith, length-set}
 use Rattle.std.proofs.Math.Nat.{sub_self}
 use Rattle.std.specs.List.{AllByRecursion}
-use Rattle.std.proofs.lemmas.List.{drop-drop, drop-set-lt, take_more_set, map_push, length_push}
+use Rattle.std.proofs.lemmas.Grind.{drop_more_same}
+use Rattle.std.proofs.lemmas.List.{drop-set-lt, take_more_set, map_push, length_push}
 use Rattle.std.proofs.lemmas.Bool.{cases_Bool, cond-true, both_ways}
 use Rattle.refusal.specs.declared.Refusal.{Refusal}
 use Rattle.refusal.specs.declared.Reason.TheVariants.{NumberTooLarge}
@@ -11,6 +12,7 @@ use Rattle.tokens.specs.declared.token.Token.{Token}
 use Rattle.tokens.specs.Tokens.{Tok, tok}
 use Rattle.tokens.specs.Lexemes.{Lexeme, Ending, complete, unclosed, unexpected, Lexed, finished}
 use Rattle.refusal.specs.Faults.{refusal, or_else}
+use Rattle.refusal.proofs.Faults.{or_else_none}
 use Rattle.tokens.specs.Reply.{too_large, fault, first_fault, start, TokensAfter}
 use Rattle.tokens.specs.Scanning.{Skips, Leads, Fails, over_limit, open_comment, stray_byte, Stands}
 use Rattle.tokens.specs.Survey.{Faultless, Filled}
@@ -44,10 +46,6 @@ module _ {p : ℕ} {bs : List ℕ} {ls : List Lexeme} (d : Lexed p bs ls complet
 abbrev Small : Lexeme → Type 0
 Small l = too_large l.token ≡ false
 
-pub later_clean : (f g : Option Refusal) → or_else f g ≡ None → g ≡ None
-later_clean None g e = e
-later_clean (Some f) g e = cc
-
 small_numbers : (last : Lexeme) (ls : List Lexeme) (e : Ending) → first_fault last ls e ≡ None → AllByRecursion Small ls
 small_numbers last [] e clean = tt
 small_numbers last (l ∷ ls) e clean =
@@ -55,7 +53,7 @@ small_numbers last (l ∷ ls) e clean =
       | inl large ↦
           let found : fault last l ≡ Some (refusal NumberTooLarge l.place) = cond-true _ _ _ large in
           cc (clean, ap (λ f. or_else f (first_fault l ls e)) found)
-      | inr small ↦ (small, small_numbers l ls e (later_clean (fault last l) (first_fault l ls e) clean))
+      | inr small ↦ (small, small_numbers l ls e (or_else_none (fault last l) (first_fault l ls e) clean).1)
     ]
 
 no_fault : {p : ℕ} {bs : List ℕ} {ls : List Lexeme} {f : Refusal} → Lexed p bs ls complete → AllByRecursion Small ls → Fails p bs f → ⊥
@@ -79,12 +77,6 @@ module _ (tokens : List Token) (count : ℕ) (token : Token) (inside : count < l
       ∙ ap (λ ts. ts ++ tok token ∷ []) filled
       ∙ ap (λ t. map token_of done ++ t ∷ []) is
       ∙ sym (map_push token_of done l)
-
-  write_kept : (before : List Token) → drop count tokens ≡ drop count before
-      → drop (count + 1) (set tokens count token) ≡ drop (count + 1) before
-  write_kept before kept =
-      drop-set-lt (count + 1) tokens count token (omega arith)
-      ∙ sym (drop-drop 1 count tokens) ∙ ap (drop 1) kept ∙ drop-drop 1 count before
 
 -- ---- the loop
 
@@ -165,7 +157,7 @@ module _ {source rest : List ℕ} {count : ℕ} {tokens before : List Token} (v 
           counted = let c = v.counted in omega arith;
           room = length-set tokens count token ∙ v.room;
           filled = write_filled tokens count token inside v.done (lexeme_of l) v.filled refl;
-          kept = write_kept tokens count token inside before v.kept;
+          kept = drop-set-lt (count + 1) tokens count token (omega arith) ∙ drop_more_same tokens before count v.kept;
         }
 
   pub filled_end : rest ≡ [] → Filled source before tokens

@@ -1,15 +1,15 @@
 -- What the two passes make of a source.
-use Rattle.std.proofs.Common.{◌≡◌, ℕ, ◌<◌, ◌≤◌, Bool, true, false, cond, leb, List, [], ◌∷◌, length, Some, None, Ok, Err, Option, Result, sym, refl, ◌∙◌, subst}
+use Rattle.std.proofs.Common.{◌≡◌, ℕ, ◌<◌, ◌≤◌, leb, List, [], ◌∷◌, length, None, Ok, Err, Result, sym, refl, ◌∙◌, subst}
 use Rattle.std.proofs.lemmas.Bool.{cond-true, cond-false, leb-true, le-leb, lt-leb}
 use Rattle.refusal.specs.declared.Refusal.{Refusal}
 use Rattle.refusal.specs.declared.Reason.TheVariants.{SourceTooLong}
 use Rattle.tokens.specs.declared.token.Token.{Token}
 use Rattle.tokens.specs.Lexemes.{Lexeme, Ending, complete, unexpected, unclosed, Lexed}
-use Rattle.refusal.specs.Faults.{refusal, unless}
+use Rattle.refusal.specs.Faults.{refusal}
+use Rattle.refusal.proofs.Faults.{passed_by, passed_if, or_else_none}
 use Rattle.tokens.specs.Reply.{ending_fault, first_fault, fault, start, lexeme_count, lex_reply, TokensAfter, Lexes}
 use Rattle.tokens.specs.Survey.{Surveyed, Faultless, Filled}
 use Rattle.tokens.proofs.Total.{total}
-use Rattle.tokens.proofs.Filling.{later_clean}
 
 pub too_long : (source : List ℕ) (tokens : List Token) → 16384 < length source
     → Lexes source tokens tokens (Err (refusal SourceTooLong 16384))
@@ -23,19 +23,10 @@ too_long source tokens long =
       tokens_are = refl;
     }
 
-unless_ok : {X : Type 0} (f : Option Refusal) (answer : Result X Refusal) (x : X) → Ok x ≡ unless f answer
-    → (f ≡ None) × (Ok x ≡ answer)
-unless_ok None answer x e = (refl, e)
-unless_ok (Some f) answer x e = cc
-
-ok_if : {X : Type 0} (b : Bool) (x y : X) (f : Refusal) → Ok x ≡ cond b (Ok y) (Err f) → (b ≡ true) × (x ≡ y)
-ok_if true x y f e = (refl, cc)
-ok_if false x y f e = cc
-
 counted_ok : (ls : List Lexeme) (n : ℕ) → Ok n ≡ lexeme_count ls → (length ls ≤ 2048) × (n ≡ length ls)
 counted_ok ls n e =
-    let (few, same) = ok_if (leb (length ls) 2048) n (length ls) _ e in
-    (leb-true (length ls) 2048 few, same)
+    let (few, same) = passed_if (leb (length ls) 2048) (Ok (length ls)) _ n e in
+    (leb-true (length ls) 2048 few, cc same)
 
 clean_ending : (e : Ending) → ending_fault e ≡ None → e ≡ complete
 clean_ending complete clean = refl
@@ -44,7 +35,7 @@ clean_ending (unclosed p) clean = cc
 
 whole : (last : Lexeme) (ls : List Lexeme) (e : Ending) → first_fault last ls e ≡ None → e ≡ complete
 whole last [] e clean = clean_ending e clean
-whole last (l ∷ ls) e clean = whole l ls e (later_clean (fault last l) (first_fault l ls e) clean)
+whole last (l ∷ ls) e clean = whole l ls e (or_else_none (fault last l) (first_fault l ls e) clean).1
 
 module _ {source : List ℕ} (before : List Token) (short : length source ≤ 16384) where
   reply_of : {reply : Result ℕ Refusal} (s : Surveyed source reply) → reply ≡ lex_reply source s.lexemes s.ending
@@ -56,7 +47,7 @@ module _ {source : List ℕ} (before : List Token) (short : length source ≤ 16
 
   module _ {n : ℕ} (s : Surveyed source (Ok n)) where
     parts : (first_fault start s.lexemes s.ending ≡ None) × (Ok n ≡ lexeme_count s.lexemes)
-    parts = unless_ok (first_fault start s.lexemes s.ending) (lexeme_count s.lexemes) n s.reply_is
+    parts = passed_by (first_fault start s.lexemes s.ending) (lexeme_count s.lexemes) n s.reply_is
 
     ends : s.ending ≡ complete
     ends = whole start s.lexemes s.ending parts.0

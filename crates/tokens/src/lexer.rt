@@ -23,7 +23,7 @@ fn are_apart(a: Class, b: Class) -> bool
 }
 
 // What is kept of the lexemes so far: their number, the end of the last one and the class of its first byte,
-// and the place of the first one too many, if there is one.
+// and the place of the first one too many, if there is one. Before the first lexeme the end 0 and the class Other join nothing.
 #[derive(Clone, Copy)]
 struct Seen {
     count: usize,
@@ -75,6 +75,7 @@ fn survey(source: &[u8]) -> Result<usize, Refusal>
         class: Class::Other,
         surplus: None,
     };
+    // The rest of the source is the cursor: an iterator would only wrap it.
     loop {
         let place = source.len() - rest.len();
         match next_at(place, rest)? {
@@ -120,7 +121,8 @@ fn lex_source<'a>(source: &'a [u8], tokens: &mut [Token<'a>; MAX_TOKENS]) -> Res
     Ok(count)
 }
 
-// Writes the tokens of the source to the front of the array and gives their number.
+// Writes the tokens of the source to the front of the array and gives their number. The array is handed in, since the libraries
+// have no heap.
 pub fn lex<'a>(source: &'a [u8], tokens: &mut [Token<'a>; MAX_TOKENS]) -> Result<usize, Refusal>
     ensures result { Lexes source.now tokens.old tokens.new result }
     ensures unique { UniqueLexemes }

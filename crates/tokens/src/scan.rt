@@ -40,7 +40,7 @@ fn with_digit(value: u32, byte: u8) -> Option<u32>
         .filter(|n| *n <= MAX_NUMBER)
 }
 
-// The number that the digits write, unless it is too large.
+// The number that the digits write, unless it is too large. The `parse` of `std` takes a text, and these are bytes.
 fn value_of(digits: &[u8]) -> Option<u32>
     requires { AllPass digit digits.now }
     ensures { result ≡ limited (decimal digits.now) }

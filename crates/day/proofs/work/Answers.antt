@@ -1,6 +1,8 @@
-use Rattle.std.proofs.Common.{◌<◌, length, take, None, refl, arith, length-take, rules}
+use Rattle.std.proofs.Common.{◌+◌, ◌<◌, ◌∙◌, length, take, None, refl, arith, length-take, rules}
+use Rattle.std.proofs.lemmas.Grind.{drop_more_same}
+use Rattle.std.proofs.lemmas.List.{drop-set-lt}
 use Rattle.day.specs.Day.{morning}
-use Rattle.day.proofs.Hours.{hour, matched, longer, past, worked}
+use Rattle.day.proofs.Hours.{hour, matched, longer, worked}
 use Rattle.day.proofs.work.Goals as goal
 
 pub loop-i-init : goal.loop-i-init
@@ -17,7 +19,7 @@ loop-i-preserved g c =
     let one = hour g.P.Port.ways g.P.Port.meaning g.O.Others.touched _ l.others l.port _ l.invariant.2 r _ _ _ _
     (matched tt l.invariant.3) c.touch.ensures c.obey_order-answered.ensures (search rules) refl in (
       omega (arith, inner),
-      past l.replies c.args.replies.now l.i r l.invariant.1,
+      drop-set-lt (l.i + 1) l.replies l.i r (omega arith) ∙ drop_more_same l.replies c.args.replies.now l.i l.invariant.1,
       _,
       longer orders l.replies l.i _ r inner room l.invariant.3 one,
     )
