@@ -35,6 +35,7 @@ impl Op {
     pub fn number(self) -> u8
         ensures { result ≡ op_number self }
     {
+        // only `as` gives a case's number
         self as u8
     }
 

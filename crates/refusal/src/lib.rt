@@ -50,6 +50,7 @@ impl Reason {
     pub fn number(self) -> u8
         ensures { result ≡ number_of self }
     {
+        // only `as` gives a case's number
         self as u8
     }
 

@@ -16,7 +16,8 @@ pub struct Name<'a> {
 
 // A node of a rule's tree. The nodes of its parts stand at the indices that it holds, each below its own. A list is its first
 // element and the list of those after it, or nothing. A `paren` is the place of a left parenthesis.
-// Indices and not boxes: the libraries allocate nothing, and a tree stands in an array of fixed length.
+// Indices and not boxes: the libraries allocate nothing, and a tree stands in an array of fixed length. `Nothing` is a node too,
+// since every index names one.
 #[derive(Clone, Copy)]
 pub enum Node<N> {
     Nothing,
