@@ -10,7 +10,7 @@ use std::test::Fail;
 // Takes each reading on to the port.
 static ROWS: [Row; 3] = [Row(1, 0, 0, 0, 0), Row(2, 0, 0, 0, 0), Row(10, 7, 0, 0, 0)];
 
-// A denial with the number on the card and the place of a refusal.
+// A denial with the number and the place of a refusal: the tests look at the numbers of the card.
 #[derive(Clone, Copy, PartialEq, Eq, Debug)]
 enum Denied {
     Unfit,

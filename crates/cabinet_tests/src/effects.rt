@@ -133,6 +133,7 @@ fn check_effect(rt: &impl Abort, effect: &Effect) -> Result<(), Fail> {
     Ok(())
 }
 
+// Here and in stores_change_one_cell a table goes through a check of its own: a loop over tables and checks would be no plainer.
 #[test]
 fn instructions_have_their_effects(rt: HostRuntime) -> Result<(), Fail> {
     for effect in &EFFECTS {

@@ -41,7 +41,7 @@ enum Call {
 #[derive(Clone, Copy)]
 struct Trial(Call, usize, usize);
 
-// What a call told, with the number and the place of a refusal.
+// What a call told, with the number and the place of a refusal: the tests look at the numbers of the card.
 type Told = Result<Done, (u8, usize)>;
 
 // What the last call told, and the stores and the set point at the end.

@@ -63,7 +63,8 @@ struct Answered {
     reply: Reply,
 }
 
-// A struct of the stores and the port was tried: the checker does not yet follow fields behind it that are lent to one call.
+// Here and in `obey_order` a struct of the stores and the port was tried: the checker does not yet follow fields behind it that
+// are lent to one call.
 fn obey<P: Port>(
     cabinet: Cabinet,
     command: Command,
@@ -136,7 +137,7 @@ fn obey_order<P: Port>(
 }
 
 // Works through a day's orders for one cabinet that is empty in the morning; others reach the port before each.
-// It stops where there is no more room for replies.
+// It stops where there is no more room for replies. Stores, port and replies come one by one: they are the caller's.
 pub fn work<P: Port, O: Others<P>>(
     empty: Empty,
     orders: &[Order],

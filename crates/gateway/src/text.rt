@@ -8,8 +8,8 @@ use machine::{Op, Ran, Stop};
 use refusal::{Reason, Refusal};
 use std::fmt;
 
-// An instruction in the notation of the assembler. What the program prints of a library's value in a line of its own is a
-// wrapper with `Display`, here and below.
+// An instruction in the notation of the assembler. Here and below, what only this program prints of a library's value is a
+// wrapper with `Display`: one of the value itself would stand in the library, for every program.
 #[derive(Clone, Copy)]
 pub struct Assembly(pub Instruction);
 

@@ -14,7 +14,7 @@ pub(crate) fn sample_code(heap: Global, count: u16) -> Result<Vec<Instruction>, 
 }
 
 fn sample_instruction(k: u16) -> Instruction {
-    // Both casts are proved to fit.
+    // Both casts are proved to fit: `try_from` would add a failure that never comes.
     let register = (k % 8) as u8;
     Instruction::from(Row((7 + k % 3) as u8, register, register, 0, i32::from(k)))
 }

@@ -60,6 +60,7 @@ fn check_size(rt: &(impl Abort + AllocGlobal), size: &Size) -> Result<(), Fail> 
     check_reading(rt, image, code.as_slice())
 }
 
+// A table and a check of its own: a loop over tables and checks would be no plainer.
 #[test]
 fn each_size_is_read_back(rt: HostRuntime) -> Result<(), Fail> {
     for size in &SIZES {
