@@ -1,5 +1,6 @@
 -- What the functions below `run` say of their part.
 use Rattle.std.specs.Prelude.{◌≡◌, ◌<◌, true, ℤ, pos, List, Some, None, Option, Ok, Err, Result}
+use Rattle.std.specs.Borrow.{Bor}
 use Rattle.word.specs.Arithmetic.{sum}
 use Rattle.port.specs.Ways.{Ways}
 use Rattle.machine.specs.declared.instruction.Instruction.{Instruction}
@@ -34,6 +35,6 @@ pub record ActsAt (code : List Instruction) (p : ℤ) (op : Op) (i : Instruction
   pub acts : (s : State) → register s 7 ≡ p → act code s ≡ act_of true (op_number op) i (with_register s 7 (sum p (pos 1)))
 
 -- what stands at a place of the code
-abbrev pub Fetched : List Instruction → ℤ → Option (Op × Instruction) → Type 0
+abbrev pub Fetched : List Instruction → ℤ → Option (Op × Bor Instruction) → Type 0
 Fetched code p None = (s : State) → register s 7 ≡ p → act code s ≡ stops place
-Fetched code p (Some x) = ActsAt code p x.0 x.1
+Fetched code p (Some x) = ActsAt code p x.0 x.1.now

@@ -33,7 +33,7 @@ impl Instruction {
             .filter(|&op| self.has_form_of(op))
     }
 
-    // The same, where the op is known.
+    // The same, where the op is known. A field that the op uses is not looked at: each step of a run comes here.
     fn has_form_of(&self, op: Op) -> bool
         requires { op_number op ≡ self.now.op }
         ensures { result ≡ formed self.now }
@@ -41,8 +41,8 @@ impl Instruction {
         self.r <= 7
             && self.s <= 7
             && self.t <= 7
-            && (self.t == 0 || op.uses_t())
-            && (self.d == 0 || op.uses_d())
-            && (self.s == 0 || op.uses_s())
+            && (op.uses_t() || self.t == 0)
+            && (op.uses_d() || self.d == 0)
+            && (op.uses_s() || self.s == 0)
     }
 }

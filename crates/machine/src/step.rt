@@ -1,4 +1,5 @@
-ghost use Rattle.std.specs.Prelude.{◌≡◌, true, length, unsigned_abs, if◌then◌else◌, Some, None};
+ghost use Rattle.std.specs.Prelude.{◌≡◌, true, length, unsigned_abs, if◌then◌else◌, Some, None, Ok, Err};
+ghost use Rattle.machine.specs.declared.stop.Stop.TheVariants.{Address};
 ghost use Rattle.machine.specs.Machine.{within, act_of, act};
 ghost use Rattle.machine.specs.Op.{op_number};
 ghost use Rattle.machine.specs.Loop.{store_state, SameMemory, NamesRegisters, Stepped, Fetched};
@@ -19,18 +20,30 @@ pub(crate) struct Store<'m> {
 fn index(a: i32, n: usize) -> Option<usize>
     ensures { result ≡ if within a n then Some (unsigned_abs a) else None }
 {
-    usize::try_from(a).ok().filter(|&k| k < n)
+    // proved to fit: `try_from` costs every step of a run more than these two comparisons
+    if 0 <= a && (a as usize) < n {
+        Some(a as usize)
+    } else {
+        None
+    }
 }
 
 // The instruction at a place, with its op, if it has the form.
-fn fetch(code: &[Instruction], place: i32) -> Option<(Op, Instruction)>
+fn fetch(code: &[Instruction], place: i32) -> Option<(Op, &Instruction)>
     ensures { Fetched code.now place result }
 {
-    let i = code[index(place, code.len())?];
+    let i = &code[index(place, code.len())?];
     Some((i.formed_op()?, i))
 }
 
 impl Store<'_> {
+    // The index of the cell at an address.
+    fn cell(&self, address: i32) -> Result<usize, Stop>
+        ensures { result ≡ if within address (length self.now.cells.now) then Ok (unsigned_abs address) else Err Address }
+    {
+        index(address, self.cells.len()).ok_or(Stop::Address)
+    }
+
     // An instruction of this op acts; register 7 is raised already.
     fn perform<P: Port>(&mut self, op: Op, i: &Instruction, port: &mut P) -> Result<(), Stop>
         requires { NamesRegisters i.now }
@@ -41,9 +54,8 @@ impl Store<'_> {
         ensures memory { SameMemory self.old self.new }
     {
         let (r, s, t) = (usize::from(i.r), usize::from(i.s), usize::from(i.t));
-        let (v, x, y) = (self.registers[r], self.registers[s], self.registers[t]);
+        let (v, x) = (self.registers[r], self.registers[s]);
         let address = word::add(i.d, x);
-        let cell = index(address, self.cells.len()).ok_or(Stop::Address);
         match op {
             Op::Halt => return Err(Stop::Halt(i.r)),
             Op::In => self.registers[r] = port.take().ok_or(Stop::Waiting)?,
@@ -52,12 +64,15 @@ impl Store<'_> {
                     return Err(Stop::Blocked(v));
                 }
             }
-            Op::Add => self.registers[r] = word::add(x, y),
-            Op::Sub => self.registers[r] = word::sub(x, y),
-            Op::Mul => self.registers[r] = word::mul(x, y),
-            Op::Div => self.registers[r] = word::div(x, y).ok_or(Stop::Divisor)?,
-            Op::Ld => self.registers[r] = self.cells[cell?],
-            Op::St => self.cells[cell?] = v,
+            Op::Add => self.registers[r] = word::add(x, self.registers[t]),
+            Op::Sub => self.registers[r] = word::sub(x, self.registers[t]),
+            Op::Mul => self.registers[r] = word::mul(x, self.registers[t]),
+            Op::Div => self.registers[r] = word::div(x, self.registers[t]).ok_or(Stop::Divisor)?,
+            Op::Ld => self.registers[r] = self.cells[self.cell(address)?],
+            Op::St => {
+                let cell = self.cell(address)?;
+                self.cells[cell] = v;
+            }
             Op::Lda => self.registers[r] = address,
             Op::Ldc => self.registers[r] = i.d,
             Op::Jlt if v < 0 => self.registers[7] = address,
@@ -81,7 +96,7 @@ impl Store<'_> {
         let place = self.registers[7];
         let (op, i) = fetch(code, place).ok_or(Stop::Place)?;
         self.registers[7] = word::add(place, 1);
-        let result = self.perform(op, &i, port);
+        let result = self.perform(op, i, port);
         if result.is_err() {
             self.registers[7] = place;
         }

@@ -16,3 +16,8 @@ returns-then-is_err-clause-stepped g c =
     (sym (to_z-of_z w32 (register s 7) place)) (to_z-of_z w32 c.add.result next ∙ c.add.ensures)
     failed c.perform-result.ensures.stepped in
     search rules
+
+pub returns-else-is_err-clause-stepped : goal.returns-else-is_err-clause-stepped
+returns-else-is_err-clause-stepped g c =
+    let there = subst (Fetched c.args.code.now _) {y = Some (c.in_ok-op.op, c.in_ok-op.i)} c.in_ok-op.ensures.ok_part c.fetch.ensures in
+    search rules
