@@ -12,10 +12,18 @@ pub struct Position {
     pub end: usize,
 }
 
+#[tactic(auto, using(std::proofs::lemmas::List::Sums::count_by_more_yes, std::proofs::lemmas::List::Sums::count_by_more_no))]
 fn newlines(text: &[u8]) -> usize
     ensures { result ≡ line_ends text.now }
 {
-    text.iter().filter(|&&b| b == b'\n').count()
+    // `filter` and `count` take twice the time of this loop.
+    let mut ends = 0;
+    for byte in text {
+        if *byte == b'\n' {
+            ends += 1;
+        }
+    }
+    ends
 }
 
 // Where the last line of a text begins.
