@@ -22,8 +22,8 @@ type Told = Result<Done, Denied>;
 fn told_by(reply: Reply) -> Told {
     reply.map_err(|denial| match denial {
         Denial::Unfit => Denied::Unfit,
-        Denial::Refused(refusal) => {
-            let (number, place) = card(refusal);
+        Denial::Refused { reason, place } => {
+            let (number, place) = card(reason.at(place));
             Denied::Refused(number, place)
         }
     })

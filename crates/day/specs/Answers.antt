@@ -4,7 +4,7 @@ use Rattle.port.specs.Ways.{Ways}
 use Rattle.machine.specs.declared.instruction.Instruction.{Instruction}
 use Rattle.machine.specs.declared.grant.Ran.{Ran}
 use Rattle.cabinet.specs.declared.Started.{Started}
-use Rattle.cabinet.specs.declared.Refused.{Refused}
+use Rattle.cabinet.specs.declared.Refused.{Refused as RefusedLoad}
 use Rattle.cabinet.specs.Calls.{Loading, load_outcome, Running, run_outcome, Restarting, restart_outcome}
 use Rattle.day.specs.declared.Cabinet.{Cabinet}
 use Rattle.day.specs.declared.Cabinet.TheVariants.{Off, On}
@@ -14,11 +14,15 @@ use Rattle.day.specs.declared.Order.{Order}
 use Rattle.day.specs.declared.Done.{Done}
 use Rattle.day.specs.declared.Done.TheVariants as done
 use Rattle.day.specs.declared.Denial.{Denial}
-use Rattle.day.specs.declared.Denial.TheVariants.{Unfit, Refused as Turned}
+use Rattle.day.specs.declared.Denial.TheVariants.{Unfit, Refused}
 
 -- what an order is answered
 abbrev pub Reply : Type 0
 Reply = Result Done Denial
+
+-- a refusal, as a reply has it
+abbrev pub denied : Refusal → Denial
+denied e = Refused e.reason e.place
 
 -- A cabinet with its stores and the meaning of its port.
 pub record Setup (M : Type 0) : Type 0 where
@@ -38,19 +42,19 @@ pub record Answer (M : Type 0) : Type 0 where
 abbrev pub unfit : {M : Type 0} → Setup M → Answer M
 unfit s = record { reply = Err Unfit; setup = s }
 
-abbrev pub load_answer : {M : Type 0} → Result Started Refused → List Instruction → List ℤ → M → Answer M
+abbrev pub load_answer : {M : Type 0} → Result Started RefusedLoad → List Instruction → List ℤ → M → Answer M
 load_answer (Ok x) code memory m =
     record { reply = Ok (done.Loaded x.count); setup = record { cabinet = On x.cabinet; code = code; memory = memory; port = m } }
 load_answer (Err x) code memory m =
-    record { reply = Err (Turned x.refusal); setup = record { cabinet = Off x.cabinet; code = code; memory = memory; port = m } }
+    record { reply = Err (denied x.refusal); setup = record { cabinet = Off x.cabinet; code = code; memory = memory; port = m } }
 
 abbrev pub run_reply : Result Ran Refusal → Reply
 run_reply (Ok t) = Ok (done.Ran t)
-run_reply (Err e) = Err (Turned e)
+run_reply (Err e) = Err (denied e)
 
 abbrev pub restart_reply : Result (Unit {0}) Refusal → Reply
 restart_reply (Ok _) = Ok done.Restarted
-restart_reply (Err e) = Err (Turned e)
+restart_reply (Err e) = Err (denied e)
 
 -- What each command is answered in each state: the call that the state has, or that it has none.
 abbrev pub answer_by : {M : Type 0} → Ways M → Cabinet → Command → Setup M → Answer M

@@ -1,7 +1,7 @@
 #![tactic(auto)]
 
 ghost use Rattle.std.specs.Prelude.{◌≡◌, min};
-ghost use Rattle.day.specs.Answers.{setup_of, answer, answer_order};
+ghost use Rattle.day.specs.Answers.{denied, setup_of, answer, answer_order};
 ghost use Rattle.day.specs.Day.{Worked};
 ghost use Rattle.day.specs.declared.Cabinet.TheVariants.{Off};
 
@@ -9,7 +9,7 @@ use cabinet::{Empty, Loaded, Refused, Started};
 use machine::Ran;
 use machine::instruction::Instruction;
 use port::Port;
-use refusal::Refusal;
+use refusal::{Reason, Refusal};
 
 // Whoever else reaches the port between the calls. Nothing is promised of what they do there.
 pub trait Others<P> {
@@ -49,11 +49,21 @@ pub enum Done {
     Unloaded,
 }
 
-// Why an order is denied: the cabinet's state does not have the command, or the call refuses.
+// Why an order is denied: the cabinet's state does not have the command, or the call refuses. A refusal stands here by its
+// parts: as one value it would make each reply of a day a third larger.
 #[derive(Clone, Copy, PartialEq, Eq, Debug)]
 pub enum Denial {
     Unfit,
-    Refused(Refusal),
+    Refused { reason: Reason, place: usize },
+}
+
+impl From<Refusal> for Denial {
+    ghost from_gives = { λ refusal d. d ≡ denied refusal };
+
+    fn from(refusal: Refusal) -> Denial {
+        let Refusal { reason, place } = refusal;
+        Denial::Refused { reason, place }
+    }
 }
 
 pub type Reply = Result<Done, Denial>;
@@ -87,21 +97,21 @@ fn obey<P: Port>(
             },
             Err(Refused { refusal, cabinet }) => Answered {
                 cabinet: Cabinet::Off(cabinet),
-                reply: Err(Denial::Refused(refusal)),
+                reply: Err(Denial::from(refusal)),
             },
         },
         (Cabinet::On(mut loaded), Command::Run(grant)) => {
             let ran = loaded.run(code, memory, port, grant);
             Answered {
                 cabinet: Cabinet::On(loaded),
-                reply: ran.map(Done::Ran).map_err(Denial::Refused),
+                reply: ran.map(Done::Ran).map_err(Denial::from),
             }
         }
         (Cabinet::On(mut loaded), Command::Restart) => {
             let restarted = loaded.restart(code, memory);
             Answered {
                 cabinet: Cabinet::On(loaded),
-                reply: restarted.map(|()| Done::Restarted).map_err(Denial::Refused),
+                reply: restarted.map(|()| Done::Restarted).map_err(Denial::from),
             }
         }
         (Cabinet::On(loaded), Command::Unload) => Answered {

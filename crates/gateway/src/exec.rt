@@ -107,6 +107,8 @@ fn load_and_runs<'a>(
 {
     // of `once` and `chain` the check does not follow the items
     let mut orders = runs(heap, load, grants)?;
+    // `insert` alone would double the room
+    orders.reserve_exact(1)?;
     orders.insert(0, load)?;
     Ok(orders)
 }

@@ -169,7 +169,10 @@ impl fmt::Display for ReplyLine {
             Ok(Done::Restarted) => write!(f, "restarted"),
             Ok(Done::Unloaded) => write!(f, "unloaded"),
             Err(Denial::Unfit) => write!(f, "unfit"),
-            Err(Denial::Refused(refusal)) => write!(f, "{refusal}"),
+            Err(Denial::Refused { reason, place }) => {
+                let refusal = reason.at(place);
+                write!(f, "{refusal}")
+            }
         }
     }
 }
