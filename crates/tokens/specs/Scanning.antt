@@ -1,5 +1,5 @@
 -- What the functions that look at the front of some bytes answer.
-use Rattle.std.specs.Prelude.{◌≡◌, ℕ, ◌+◌, ◌<◌, ◌≤◌, ◌⊎◌, true, false, if◌then◌else◌, List, [], ◌∷◌, ◌++◌, length, Some, None, Ok, Err, Option, Result, ◌≢◌, nat_le, slice_index}
+use Rattle.std.specs.Prelude.{◌≡◌, ℕ, ◌+◌, ◌<◌, ◌≤◌, ◌⊎◌, true, false, if◌then◌else◌, List, [], ◌∷◌, ◌++◌, length, codes, Some, None, Ok, Err, Option, Result, ◌≢◌, nat_le, slice_index}
 use Rattle.std.specs.Borrow.{Bor}
 use Rattle.std.specs.List.{AllByRecursion}
 use Rattle.refusal.specs.declared.Refusal.{Refusal}
@@ -21,6 +21,11 @@ use Rattle.tokens.specs.Reply.{too_large}
 
 abbrev pub class : ℕ → Class
 class b = if letter b then Letter else if digit b then Digit else if white b then White else Other
+
+-- the bytes after the mark that opens a comment, if bs begins with it
+abbrev pub Opening : List ℕ → Option (Bor (List ℕ)) → Type 0
+Opening bs (Some r) = bs ≡ codes "/*" ++ r.now
+Opening bs None = Front (codes "/*") bs → ⊥
 
 -- no closing mark stands at i
 abbrev pub NotClosing : List ℕ → ℕ → Type 0

@@ -1,7 +1,7 @@
 ghost use Rattle.std.specs.Prelude.{◌≡◌, ◌≤◌, length};
 ghost use Rattle.std.specs.List.{prefix_len};
 ghost use Rattle.tokens.specs.Lexemes.{letter, digit};
-ghost use Rattle.tokens.specs.Scanning.{class, FirstClosing, CommentEnd};
+ghost use Rattle.tokens.specs.Scanning.{class, Opening, FirstClosing, CommentEnd};
 
 // What a byte can be part of.
 #[derive(Clone, Copy, PartialEq, Eq, Debug)]
@@ -36,6 +36,16 @@ pub fn leading_digits(s: &[u8]) -> usize
     ensures within { result ≤ length s.now }
 {
     s.iter().take_while(|b| b.is_ascii_digit()).count()
+}
+
+// The bytes after the mark that opens a comment, if it stands in front.
+pub fn after_opening(s: &[u8]) -> Option<&[u8]>
+    ensures { Opening s.now result }
+{
+    match s {
+        [b'/', b'*', rest @ ..] => Some(rest),
+        _ => None,
+    }
 }
 
 // Where the first mark that closes a comment stands.

@@ -3,7 +3,9 @@ ghost use Rattle.std.specs.List.{AllPass};
 ghost use Rattle.tokens.specs.Lexemes.{digit, decimal};
 ghost use Rattle.tokens.specs.Scanning.{limited, WordToken, Stands};
 
-use crate::bytes::{Class, after_comment, class_of, leading_digits, leading_letters};
+use crate::bytes::{
+    Class, after_comment, after_opening, class_of, leading_digits, leading_letters,
+};
 use crate::marks::{keyword_of, symbol};
 use crate::token::Token;
 use refusal::{Reason, Refusal};
@@ -55,10 +57,6 @@ fn value_of(digits: &[u8]) -> Option<u32>
 pub fn next_at<'a>(place: usize, s: &'a [u8]) -> Result<Next<'a>, Refusal>
     ensures { Stands place s.now result }
 {
-    if let Some(body) = s.strip_prefix(b"/*") {
-        let rest = after_comment(body).ok_or(Reason::UnclosedComment.at(place))?;
-        return Ok(Next::Gap(rest));
-    }
     let [first, behind @ ..] = s else {
         return Ok(Next::End);
     };
@@ -74,6 +72,10 @@ pub fn next_at<'a>(place: usize, s: &'a [u8]) -> Result<Next<'a>, Refusal>
             Ok(Next::Token(Token::Number(place, value), rest))
         }
         Class::Other => {
+            if let Some(body) = after_opening(s) {
+                let rest = after_comment(body).ok_or(Reason::UnclosedComment.at(place))?;
+                return Ok(Next::Gap(rest));
+            }
             let (mark, rest) = symbol(s).ok_or(Reason::UnexpectedByte.at(place))?;
             Ok(Next::Token(Token::Mark(place, mark), rest))
         }

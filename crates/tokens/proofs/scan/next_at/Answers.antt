@@ -10,20 +10,20 @@ use Rattle.tokens.proofs.Standing.{word_stands, number_digits, number_stands, nu
 use Rattle.tokens.proofs.scan.next_at.Goals as goal
 use Rattle.tokens.proofs.scan.next_at.Goals.{After-split_at-in-Digit}
 
-pub returns-in_err-rest : goal.returns-in_err-rest
-returns-in_err-rest c =
+pub returns-in_err-rest-in-Other : goal.returns-in_err-rest-in-Other
+returns-in_err-rest-in-Other c =
     let opens : c.args.s.now ≡ codes "/*" ++ c.in-Some.body.now = search rules in
     let none : c.after_comment.result ≡ None = search rules in
     let unclosed = rw none at c.after_comment.ensures in
-    let refused : c.from_residual.result ≡ Err (refusal UnclosedComment c.args.place) = search rules in
+    let refused : c.from_residual-in_err-rest-in-Other.result ≡ Err (refusal UnclosedComment c.args.place) = search rules in
     rw refused (open_comment (left_open opens c.args.place unclosed))
 
 pub returns-in-Some : goal.returns-in-Some
 returns-in-Some c =
     let opens : c.args.s.now ≡ codes "/*" ++ c.in-Some.body.now = search rules in
-    let some : c.after_comment.result ≡ Some c.in_ok-rest.rest = search rules in
+    let some : c.after_comment.result ≡ Some c.in_ok-rest-in-Other.rest = search rules in
     let ends = rw some at c.after_comment.ensures in
-    skips_comment opens c.in_ok-rest.rest.now ends
+    skips_comment opens c.in_ok-rest-in-Other.rest.now ends
 
 pub returns-in-White : goal.returns-in-White
 returns-in-White c =
@@ -50,7 +50,7 @@ value_of-requires c =
 pub returns-in_err-value-in-Digit : goal.returns-in_err-value-in-Digit
 returns-in_err-value-in-Digit c =
     let none : c.value_of.result ≡ None = search rules in
-    let refused : c.from_residual-in_err-value-in-Digit.result ≡ Err (refusal NumberTooLarge c.args.place) = search rules in
+    let refused : c.from_residual.result ≡ Err (refusal NumberTooLarge c.args.place) = search rules in
     rw refused
     (number_fails c.args.place c.args.s.now c.split_at-in-Digit.result.0.now c.split_at-in-Digit.result.1.now (omega arith)
     c.split_at-in-Digit.ensures.by_index.0 c.in-Digit.ensures
