@@ -33,16 +33,18 @@ impl Instruction {
             .filter(|&op| self.has_form_of(op))
     }
 
-    // The same, where the op is known. A field that the op uses is not looked at: each step of a run comes here.
+    // The same, where the op is known. Each step of a run comes here: registers that are read at once are compared in one branch,
+    // and a displacement that the op uses is not read.
     fn has_form_of(&self, op: Op) -> bool
         requires { op_number op ≡ self.now.op }
         ensures { result ≡ formed self.now }
     {
-        self.r <= 7
-            && self.s <= 7
-            && self.t <= 7
-            && (op.uses_t() || self.t == 0)
+        let Instruction { r, s, t, .. } = *self;
+        r <= 7
+            && s <= 7
+            && t <= 7
+            && (op.uses_t() || t == 0)
             && (op.uses_d() || self.d == 0)
-            && (op.uses_s() || self.s == 0)
+            && (op.uses_s() || s == 0)
     }
 }
